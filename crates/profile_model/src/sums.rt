@@ -1,0 +1,121 @@
+// Values added up for each stack.
+ghost use Rattle.std.specs.Prelude.{◌≡◌, ◌↔◌, ◌+◌, ◌^◌, ◌<◌, ◌≤◌, [], length, IsTrue, OnOk, OnErr, IsErrOf};
+ghost use Rattle.profile_model.specs.Sums.{AreSums, total_of, value_of, with_added};
+
+use crate::Stack;
+use std::alloc::Global;
+use std::collections::{BTreeMap, btree_map};
+use std::error::Error;
+use std::fmt;
+use std::marker::Model;
+
+/// The most that all values together may come to: 2^63 - 1.
+pub const MAX_TOTAL: u64 = 9_223_372_036_854_775_807;
+
+/// Distinct stacks in ascending order, each with a value of at least 1.
+#[derive(Debug, Drop)]
+pub struct StackSums {
+    values: BTreeMap<Stack, u64>,
+    total: u64,
+}
+
+impl Model for StackSums {
+    ghost use Rattle.std.specs.Prelude.{List, ℕ};
+    ghost use Rattle.profile_model.specs.StoredSums.{AreStored};
+
+    ghost Value = { List (List (List ℕ) × ℕ) };
+
+    ghost view = { λ s. s.values.entries };
+
+    ghost invariant = { λ s. AreStored s.values.entries s.total };
+}
+
+/// Why a value wasn't added.
+#[derive(Clone, Copy, Debug, PartialEq, Eq)]
+pub enum AddFault {
+    /// All values together would pass `MAX_TOTAL`.
+    Sum,
+    Memory,
+}
+
+impl fmt::Display for AddFault {
+    fn fmt<W: fmt::Write>(&self, f: &mut fmt::Formatter<W>) -> fmt::Result {
+        match self {
+            AddFault::Sum => write!(f, "the values come to more than {MAX_TOTAL}"),
+            AddFault::Memory => write!(f, "out of memory"),
+        }
+    }
+}
+
+impl Error for AddFault {}
+
+impl StackSums {
+    /// No stacks. It takes no memory.
+    pub fn new(alloc: Global) -> StackSums
+        ensures { result ≡ [] }
+    {
+        StackSums {
+            values: BTreeMap::new(alloc),
+            total: 0,
+        }
+    }
+
+    /// Adds to the stack's value. A value of 0 changes nothing.
+    pub fn add(&mut self, stack: Stack, value: u64) -> Result<(), AddFault>
+        ensures ok { OnOk result (self.new ≡ with_added self.old stack value) }
+        ensures sum { IsErrOf result AddFault.Sum → 2 ^ 63 ≤ total_of self.old + value }
+        ensures fits { OnOk result (total_of self.old + value < 2 ^ 63) }
+        ensures err { OnErr result (self.new ≡ self.old) }
+    {
+        if value > MAX_TOTAL - self.total {
+            return Err(AddFault::Sum);
+        }
+        if value == 0 {
+            return Ok(());
+        }
+        let held = self.value(&stack);
+        match self.values.insert(stack, held + value) {
+            Ok(_) => {
+                self.total += value;
+                Ok(())
+            }
+            Err(_) => Err(AddFault::Memory),
+        }
+    }
+
+    /// The value of a stack, 0 where it isn't there.
+    pub fn value(&self, stack: &Stack) -> u64
+        ensures { result ≡ value_of self.now stack.now }
+    {
+        self.values.get(stack).copied().unwrap_or(0)
+    }
+
+    /// All values together.
+    pub fn total(&self) -> u64
+        ensures total { result ≡ total_of self.now }
+        ensures bound { result < 2 ^ 63 }
+    {
+        self.total
+    }
+
+    /// The count of stacks.
+    pub fn len(&self) -> usize
+        ensures { result ≡ length self.now }
+    {
+        self.values.len()
+    }
+
+    pub fn is_empty(&self) -> bool
+        ensures { IsTrue result ↔ (self.now ≡ []) }
+    {
+        self.values.is_empty()
+    }
+
+    /// The stacks and their values, ascending.
+    pub fn iter(&self) -> btree_map::Iter<'_, Stack, u64>
+        ensures stacks { result ≡ self.now }
+        ensures sums { AreSums self.now }
+    {
+        self.values.iter()
+    }
+}

@@ -4,3 +4,10 @@ pub mod StackOrder
 pub mod ReadStacks
 pub mod Sums
 pub mod StoredSums
+pub mod TenantPlaces
+pub mod Tenants
+pub mod Kinds
+pub mod ReadKinds
+pub mod LabelSets
+pub mod Pushes
+pub mod History

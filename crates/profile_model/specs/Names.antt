@@ -1,5 +1,5 @@
 -- What reading a name answers.
-use Rattle.std.specs.Prelude.{◌≡◌, ℕ, List, length, take, Result, Ok, Err}
+use Rattle.std.specs.Prelude.{◌≡◌, ℕ, List, Result, Ok, Err}
 use Rattle.std.specs.Str.{IsUtf8, IsValidUpTo}
 use Rattle.profile_model.specs.declared.name.NameFault.{NameFault}
 use Rattle.profile_model.specs.declared.name.NameFault.TheVariants.{NotUtf8, Memory}

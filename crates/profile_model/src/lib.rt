@@ -1,10 +1,24 @@
 //! What a profile is: names, stacks and their sums, labels, types, tenants and pushes, with their limits.
 #![tactic(auto)]
 
+mod history;
+mod kind;
+mod labels;
 mod name;
+mod profile;
+mod push;
 mod stack;
 mod sums;
+mod tenant;
+#[cfg(test)]
+mod tests;
 
+pub use history::{front, kept_total};
+pub use kind::{ProfileType, TypeFault};
+pub use labels::{LabelSet, MAX_VALUE_BYTES, SERVICE_LABEL};
 pub use name::{Name, NameFault};
+pub use profile::{MAX_PROFILES, Profile, Profiles};
+pub use push::Push;
 pub use stack::{MAX_FRAME_BYTES, MAX_FRAMES, Stack, StackFault};
 pub use sums::{AddFault, MAX_TOTAL, StackSums};
+pub use tenant::{MAX_TENANT_BYTES, Tenant, TenantFault, wrong_tenant_byte};

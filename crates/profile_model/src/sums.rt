@@ -3,7 +3,7 @@ ghost use Rattle.std.specs.Prelude.{◌≡◌, ◌↔◌, ◌+◌, ◌^◌, ◌<
 ghost use Rattle.profile_model.specs.Sums.{AreSums, total_of, value_of, with_added};
 
 use crate::Stack;
-use std::alloc::Global;
+use std::alloc::{AllocError, Global};
 use std::collections::{BTreeMap, btree_map};
 use std::error::Error;
 use std::fmt;
@@ -65,6 +65,7 @@ impl StackSums {
         ensures ok { OnOk result (self.new ≡ with_added self.old stack value) }
         ensures sum { IsErrOf result AddFault.Sum → 2 ^ 63 ≤ total_of self.old + value }
         ensures fits { OnOk result (total_of self.old + value < 2 ^ 63) }
+        ensures total { OnOk result (total_of self.new ≡ total_of self.old + value) }
         ensures err { OnErr result (self.new ≡ self.old) }
     {
         if value > MAX_TOTAL - self.total {
@@ -117,5 +118,17 @@ impl StackSums {
         ensures sums { AreSums self.now }
     {
         self.values.iter()
+    }
+}
+
+impl Clone for StackSums {
+    ghost is_clone = { λ sums copy. copy ≡ sums };
+
+    fn clone(&self) -> Result<StackSums, AllocError> {
+        let values = self.values.clone()?;
+        Ok(StackSums {
+            values,
+            total: self.total,
+        })
     }
 }

@@ -1,7 +1,6 @@
-use Rattle.std.proofs.Common.{◌≤◌, length, rules, arith, take}
+use Rattle.std.proofs.Common.{◌≤◌, length, arith}
 use Rattle.std.proofs.lemmas.List.Elements.{All-more}
 use Rattle.std.proofs.lemmas.List.{take_all}
-use Rattle.std.proofs.lemmas.Grind.{common_steps}
 use Rattle.profile_model.specs.Stacks.{IsFrame}
 use Rattle.profile_model.proofs.stack.wrong_frame.Goals as goal
 

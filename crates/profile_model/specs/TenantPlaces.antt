@@ -1,0 +1,23 @@
+-- Which bytes are a tenant's name, and the place that is wrong in those that aren't.
+use Rattle.std.specs.Prelude.{◌==◌, ◌||◌, ◌&&◌, ℕ, Bool, true, false, not, List, [], ◌∷◌, length, take, position, nat_lt, codes, Option, Some, None, if◌then◌else◌}
+use Rattle.std.specs.List.{list_any}
+use Rattle.std.specs.Option.{option_or}
+use Rattle.std.specs.Char.{is_ascii_alphanumeric}
+
+-- letters, digits and !-_.*'()
+abbrev pub is_tenant_byte : ℕ → Bool
+is_tenant_byte b = is_ascii_alphanumeric b || list_any (λ c. c == b) (codes "!-_.*'()")
+
+-- nothing, one dot or two
+abbrev pub is_dots : List ℕ → Bool
+is_dots [] = true
+is_dots (b ∷ []) = b == 46
+is_dots (b ∷ c ∷ []) = (b == 46) && (c == 46)
+is_dots _ = false
+
+-- the first byte among the first 150 that no tenant has; else 150 where there are more;
+-- else 0 where there is none, or only one dot or two; None where the bytes are a tenant
+abbrev pub wrong_place : List ℕ → Option ℕ
+wrong_place bytes =
+    option_or (position (λ b. not (is_tenant_byte b)) (take 150 bytes))
+    (if nat_lt 150 (length bytes) then Some 150 else (if is_dots bytes then Some 0 else None))

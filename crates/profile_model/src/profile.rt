@@ -1,0 +1,53 @@
+// Samples of one program over one stretch of time.
+ghost use Rattle.std.specs.Prelude.{◌≡◌, ◌^◌, ◌<◌, ◌≤◌, [], ◌∷◌, length, IfOk};
+
+use crate::{LabelSet, ProfileType, StackSums};
+use std::alloc::{AllocError, Global};
+use std::marker::Model;
+
+/// The most profiles that one push may have.
+pub const MAX_PROFILES: usize = 4096;
+
+/// What was sampled, of what, and when.
+#[derive(Debug, Drop)]
+pub struct Profile {
+    pub labels: LabelSet,
+    pub kind: ProfileType,
+    /// Milliseconds since 1970.
+    pub time_ms: u64,
+    pub values: StackSums,
+}
+
+/// The profiles of one push, in its order: at most `MAX_PROFILES`.
+#[derive(Debug, Drop)]
+pub struct Profiles {
+    items: Vec<Profile>,
+}
+
+impl Model for Profiles {
+    ghost use Rattle.std.specs.Prelude.{◌≤◌, List, length};
+    ghost use Rattle.profile_model.specs.declared.profile.Profile.{Profile};
+
+    ghost Value = { List Profile };
+
+    ghost view = { λ p. p.items.items };
+
+    ghost invariant = { λ p. length p.items.items ≤ 4096 };
+}
+
+impl Profiles {
+    pub fn one(alloc: Global, profile: Profile) -> Result<Profiles, AllocError>
+        ensures { IfOk result (λ profiles. profiles ≡ profile ∷ []) }
+    {
+        let mut items = Vec::with_capacity(alloc, 1)?;
+        items.push(profile)?;
+        Ok(Profiles { items })
+    }
+
+    pub fn as_slice(&self) -> &[Profile]
+        ensures value { result.now ≡ self.now }
+        ensures few { length self.now ≤ 4096 }
+    {
+        &self.items
+    }
+}

@@ -1,5 +1,6 @@
 -- What one push more does to a tenant's pushes and their total.
-use Rattle.std.proofs.Common.{◌≡◌, ◌+◌, ◌≤◌, ◌<◌, ℕ, zero, suc, List, [], ◌∷◌, ◌++◌, take, length, get_or, refl, arith, sym, Bool, true, false, cond}
+use Rattle.std.proofs.Common.{◌≡◌, ◌+◌, ◌≤◌, ◌<◌, ℕ, zero, suc, List, [], ◌∷◌, ◌++◌, take, length, get_or, refl, arith, sym, Bool, true, false, cond, ap, ◌∙◌, add-one}
+use Rattle.std.proofs.Math.Seq.{take-suc}
 use Rattle.std.proofs.lemmas.Bool.{true≢false}
 use Rattle.std.proofs.lemmas.List.Sums.{sum_by-cons}
 use Rattle.std.specs.Prelude.{◌^◌, filter, sum_by, nat_eq, if◌then◌else◌}
@@ -51,3 +52,18 @@ bounded-push history push bounded room tenant = by (pointwise nat_eq push.tenant
     by : (own : Bool) → pointwise nat_eq push.tenant tenant ≡ own → tenant_total (history ++ push ∷ []) tenant < 2 ^ 63
     by true is = rw (tenant_total-push history push tenant, is, ← same is) room
     by false is = let below = bounded tenant in rw (tenant_total-push history push tenant, is) (omega arith)
+
+-- the total of a tenant over one push more of a history
+pub tenant_total-next : (history : List Push) (tenant : List ℕ) (i : ℕ) (push : Push) → i < length history → push ≡ get_or history i push
+    → tenant_total (take (i + 1) history) tenant ≡ tenant_total (take i history) tenant + (if pointwise nat_eq push.tenant tenant then profiles_total push.profiles else 0)
+tenant_total-next history tenant i push short is =
+    let next : take (i + 1) history ≡ take i history ++ push ∷ [] =
+        rw add-one (take-suc history i push short ∙ ap (λ (last : Push). take i history ++ last ∷ []) (sym is)) in
+    rw next (tenant_total-push (take i history) push tenant)
+
+-- no front of a history has a larger total than the whole
+pub tenant_total-within : (history : List Push) (tenant : List ℕ) (i : ℕ) (push : Push) → i < length history → push ≡ get_or history i push
+    → pointwise nat_eq push.tenant tenant ≡ true
+    → tenant_total (take i history) tenant + profiles_total push.profiles ≤ tenant_total history tenant
+tenant_total-within history tenant i push short is own =
+    rw is (sum_by-filter-more (λ (one : Push). profiles_total one.profiles) (λ one. pointwise nat_eq one.tenant tenant) history i push short (rw is at own))

@@ -1,0 +1,20 @@
+//! What a request means, and the reply to it.
+#![tactic(auto)]
+
+mod answered;
+mod ask;
+mod config;
+mod fault_body;
+mod ingest;
+mod meaning;
+mod parameters;
+mod refusal;
+mod render;
+#[cfg(test)]
+mod tests;
+mod verdict;
+
+pub use answered::{Answered, answer};
+pub use config::Config;
+pub use refusal::{closing_reply, memory_reply};
+pub use verdict::{FirstVerdict, acknowledge};

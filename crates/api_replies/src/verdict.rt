@@ -1,0 +1,50 @@
+// The reply to a write, once its fate is settled.
+use crate::fault_body::over_limit;
+use crate::refusal::memory_reply;
+use http_session::{Body, Reply, Status, Text};
+
+/// What became of a push.
+#[derive(Clone, Copy, Debug, PartialEq, Eq)]
+pub enum FirstVerdict {
+    /// It was kept as the last of so many pushes of its tenant.
+    Kept(u64),
+    /// The tenant's total and the push's would pass the tenant's limit.
+    OverLimit {
+        kept: u128,
+        push: u128,
+        limit: u64,
+        /// How many pushes of the tenant there are.
+        front: u64,
+    },
+    Memory,
+}
+
+/// The reply that tells a verdict. It takes no memory.
+pub fn acknowledge(verdict: FirstVerdict, now: u64, close: bool) -> Reply {
+    match verdict {
+        FirstVerdict::Kept(front) => Reply {
+            status: Status::Ok,
+            text: Text::Plain,
+            body: Body::empty(),
+            allow: None,
+            front: Some(front),
+            now,
+            close,
+        },
+        FirstVerdict::OverLimit {
+            kept,
+            push,
+            limit,
+            front,
+        } => Reply {
+            status: Status::UnprocessableContent,
+            text: Text::Json,
+            body: over_limit(push, kept, limit),
+            allow: None,
+            front: Some(front),
+            now,
+            close,
+        },
+        FirstVerdict::Memory => memory_reply(now, close),
+    }
+}

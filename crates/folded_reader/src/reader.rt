@@ -1,0 +1,82 @@
+// Folded text to sums.
+ghost use Rattle.std.specs.Prelude.{◌≡◌, ◌+◌, ◌^◌, ◌<◌, MatchResult};
+ghost use Rattle.profile_model.specs.Sums.{Sample, total_of, with_added};
+ghost use Rattle.folded_reader.specs.Lines.{IsSample, IsFaultOfLine, OrMemory};
+ghost use Rattle.folded_reader.specs.Folded.{IsReadFolded, IsReadLines, IsRead, IsText, IsSumOf, IsFirstFault, lines_of};
+
+use crate::FoldedFault;
+use crate::frames::depth_of;
+use crate::interner::Interner;
+use crate::line::{LineForm, cut};
+use profile_model::{AddFault, StackSums};
+use std::alloc::Global;
+
+/// How gzip begins.
+const GZIP: [u8; 2] = [0x1F, 0x8B];
+
+/// The sums of a body whose lines are a stack, a space and a count.
+/// A stack's frames stand from the root, joined by `;`, as flame graph tools write them.
+pub fn read_folded(alloc: Global, bytes: &[u8]) -> Result<StackSums, FoldedFault>
+    ensures read { IsReadFolded bytes.now result }
+{
+    read(alloc, bytes, LineForm::Counted)
+}
+
+/// The sums of a body whose lines are stacks, each of which counts once.
+pub fn read_lines(alloc: Global, bytes: &[u8]) -> Result<StackSums, FoldedFault>
+    ensures read { IsReadLines bytes.now result }
+{
+    read(alloc, bytes, LineForm::Bare)
+}
+
+fn read(alloc: Global, bytes: &[u8], form: LineForm) -> Result<StackSums, FoldedFault>
+    ensures { IsRead form bytes.now result }
+{
+    if bytes.starts_with(&GZIP) {
+        return Err(FoldedFault::Compressed);
+    }
+    match str::from_utf8(bytes) {
+        Ok(text) => sums_of_text(alloc, text, form),
+        Err(fault) => Err(FoldedFault::NotUtf8(fault.valid_up_to())),
+    }
+}
+
+fn sums_of_text(alloc: Global, text: &str, form: LineForm) -> Result<StackSums, FoldedFault>
+    ensures { MatchResult result
+        (IsSumOf form (lines_of text.now)) (λ fault. OrMemory fault (IsFirstFault form (lines_of text.now) fault)) }
+{
+    let mut names = Interner::new(alloc);
+    let mut sums = StackSums::new(alloc);
+    let mut number = 0;
+    for line in text.split('\n') {
+        number += 1;
+        if line.is_empty() {
+            continue;
+        }
+        add_line(alloc, &mut names, &mut sums, form, line, number)?;
+    }
+    Ok(sums)
+}
+
+fn add_line<'a>(
+    alloc: Global,
+    names: &mut Interner<'a>,
+    sums: &mut StackSums,
+    form: LineForm,
+    line: &'a str,
+    number: u64,
+) -> Result<(), FoldedFault>
+    ensures { MatchResult result
+        (λ _. (sample : Sample) × IsSample form line.now sample × (total_of sums.old + sample.1 < 2 ^ 63)
+        × (sums.new ≡ with_added sums.old sample.0 sample.1))
+        (λ fault. OrMemory fault (IsFaultOfLine form number (total_of sums.old) line.now fault)) }
+{
+    let (text, count) = cut(form, line, number)?;
+    let depth = depth_of(text, number)?;
+    let stack = names.stack(alloc, text, depth)?;
+    match sums.add(stack, count) {
+        Ok(()) => Ok(()),
+        Err(AddFault::Sum) => Err(FoldedFault::TooLarge(number)),
+        Err(AddFault::Memory) => Err(FoldedFault::Memory),
+    }
+}

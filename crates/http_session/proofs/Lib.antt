@@ -1,0 +1,9 @@
+pub mod BufferLemmas
+pub mod DigitLemmas
+pub mod GoesLemmas
+pub mod JoinLemmas
+pub mod LinkLemmas
+pub mod NewlineLemmas
+pub mod SpanLemmas
+pub mod TargetLemmas
+pub mod NamedLemmas

@@ -1,0 +1,52 @@
+-- What spans cover stays the same in the text of the head alone.
+use Rattle.std.proofs.Common.{◌≡◌, ℕ, ◌+◌, ◌-◌, ◌<◌, ◌≤◌, List, [], ◌∷◌, ◌++◌, length, take, drop, map, refl, sym, subst, ap, ap₂, ◌∙◌, arith, length-take, slice_range}
+use Rattle.std.specs.List.{All}
+use Rattle.std.proofs.lemmas.List.{take-take, drop-take, length-take-le, length-map}
+use Rattle.std.proofs.lemmas.List.Elements.{All-head, All-tail}
+use Rattle.httparse.specs.declared.spans.Span.{Span}
+use Rattle.httparse.specs.declared.spans.HeaderSpan.{HeaderSpan}
+use Rattle.httparse.specs.declared.spans.RequestSpans.{RequestSpans}
+use Rattle.httparse.specs.Grammar.{RequestHead, print_request, ReadsRequest}
+use Rattle.httparse.specs.Spans.{span_bytes, IsWithin, IsHeaderWithin, header_bytes, IsRequestWithin, IsRequestAt, name_and_value}
+use Rattle.http_session.specs.Heads.{BeginsWithHead, headers_of}
+use Rattle.http_session.specs.HeadRead.{Covers, IsHeadAt}
+
+-- a span in the first n bytes covers the same in these alone
+pub span_in_front : (n : ℕ) (bytes : List ℕ) (span : Span) → IsWithin n span → span_bytes (take n bytes) span ≡ span_bytes bytes span
+span_in_front n bytes span within =
+    ap (λ m. slice_range (take m bytes) span.start span.end) (let same : n ≡ span.start + (n - span.start) = omega (arith, within.0, within.1) in same)
+    ∙ ap (λ (xs : List ℕ). take (span.end - span.start) xs) (drop-take span.start (n - span.start) bytes)
+    ∙ take-take (span.end - span.start) (n - span.start) (drop span.start bytes) (omega (arith, within.0, within.1))
+
+-- the same of headers
+pub headers_in_front : (n : ℕ) (bytes : List ℕ) (headers : List HeaderSpan) → All (IsHeaderWithin n) headers →
+    map (header_bytes (take n bytes)) headers ≡ map (header_bytes bytes) headers
+headers_in_front n bytes [] within = refl
+headers_in_front n bytes (h ∷ headers) within =
+    let first = All-head (IsHeaderWithin n) h headers within in
+    ap₂ (λ (x : List ℕ × List ℕ) (xs : List (List ℕ × List ℕ)). x ∷ xs)
+    (ap₂ (λ (a b : List ℕ). (a, b)) (span_in_front n bytes h.name first.0) (span_in_front n bytes h.value first.1))
+    (headers_in_front n bytes headers (All-tail (IsHeaderWithin n) h headers within))
+
+-- what the parser answers, said of the text of the head alone
+pub head_at : (bytes : List ℕ) (headers : List HeaderSpan) (spans : RequestSpans) (head : RequestHead) → length bytes ≤ 16384 → length headers ≡ 64 →
+    IsRequestWithin bytes headers spans → IsRequestAt bytes headers spans head → IsHeadAt bytes headers spans head
+head_at bytes headers spans head short room within at =
+    let long : length (take spans.len bytes) ≡ spans.len = length-take-le spans.len bytes within.section.len_fits in
+    let counted : length head.fields ≡ length (take spans.headers headers) =
+    sym (length-map head.fields name_and_value) ∙ ap length (sym at.fields) ∙ length-map (take spans.headers headers) (header_bytes bytes) in
+    let few : length head.fields ≤ 64 = omega (arith, counted, room, length-take spans.headers headers) in
+    record {
+      begins = record { reads = at.reads; few = few; short = omega (arith, at.len, within.section.len_fits) };
+      fits = within.section.len_fits;
+      count = within.section.count_fits;
+      covers = record {
+        method_within = let P : ℕ → Type 0 = λ n. IsWithin n spans.method in subst P (sym long) within.method;
+        target_within = let P : ℕ → Type 0 = λ n. IsWithin n spans.path in subst P (sym long) within.path;
+        headers_within = let P : ℕ → Type 0 = λ n. All (IsHeaderWithin n) (take spans.headers headers) in subst P (sym long) within.section.headers_fit;
+        method = span_in_front spans.len bytes spans.method within.method ∙ at.method;
+        target = span_in_front spans.len bytes spans.path within.path ∙ at.path;
+        version = at.version;
+        headers_are = headers_in_front spans.len bytes (take spans.headers headers) within.section.headers_fit ∙ at.fields;
+      };
+    }

@@ -1,0 +1,14 @@
+use Rattle.std.proofs.Common.{rules, arith, ◌≡◌, ◌-◌, ◌+◌, ◌*◌, get_or, take, ℕ, true, sym, subst}
+use Rattle.std.proofs.lemmas.Int.Digits.{digits_value_more}
+use Rattle.std.specs.Str.Parse.{digits_value}
+use Rattle.std.specs.Char.{digit_value}
+use Rattle.http_session.proofs.DigitLemmas.{digit_at}
+use Rattle.http_session.proofs.framing.decimal_value.Goals as goal
+
+pub loop-digit-preserved : goal.loop-digit-preserved
+loop-digit-preserved c =
+    let digits = c.args.digits.now in
+    let i : ℕ = c.loop-digit.digit-index in
+    let more = digits_value_more 10 digits i c.loop-digit-test.true in
+    let digit = digit_at digits i c.loop-digit-test.true c.requires in
+    omega (arith, more, digit, c.loop-digit.invariant)

@@ -1,0 +1,38 @@
+use Rattle.std.proofs.Common.{◌≡◌, ◌≤◌, ℕ, List, length, take, sym, subst, arith, append-nil, inl, inr, refl, ap, ◌∙◌, Err, []}
+use Rattle.std.proofs.lemmas.Bool.Decides.{nat_tests}
+use Rattle.httparse.specs.declared.Error.TheVariants.{TooManyHeaders}
+use Rattle.httparse.specs.Spans.{RequestExceeds}
+use Rattle.std.proofs.lemmas.List.{take_all}
+use Rattle.httparse.specs.Grammar.{HasNoRequest, ReadsRequest, RequestHead}
+use Rattle.http_session.specs.Heads.{IsHeadTooLarge, newlines, after_lines}
+use Rattle.http_session.proofs.NewlineLemmas.{exceeds_newlines}
+use Rattle.http_session.proofs.SpanLemmas.{head_at}
+use Rattle.http_session.proofs.head.read_head.Goals as goal
+use Rattle.http_session.proofs.head.read_head.Goals.{then-bytes-eq-HEAD_LIMIT, else-bytes-eq-HEAD_LIMIT}
+
+pub returns-in-Ok-Complete : goal.returns-in-Ok-Complete
+returns-in-Ok-Complete c =
+    let arm = c.in-Ok-Complete in
+    let within = rw arm.field-0-is at arm.ensures.within in
+    let complete = rw arm.field-0-is at arm.ensures.complete in
+    (complete.0, head_at c.args.bytes.now c.parse_request.new.headers arm.spans complete.0 c.requires (c.parse_request.auto.headers ∙ c.told-headers) within complete.1)
+
+pub returns-then-newline_count-ge-NEWLINE_LIMIT : goal.returns-then-newline_count-ge-NEWLINE_LIMIT
+returns-then-newline_count-ge-NEWLINE_LIMIT c =
+    let bytes = c.args.bytes.now in
+    let none : HasNoRequest bytes = rw c.in-Ok-Partial.field-0-is at c.in-Ok-Partial.ensures.partial in
+    elim c.if-bytes-eq-HEAD_LIMIT.branch [
+      | then-bytes-eq-HEAD_LIMIT w ↦ inl (omega arith, subst HasNoRequest (sym (take_all 16384 bytes c.requires)) none)
+      | else-bytes-eq-HEAD_LIMIT w ↦ inr (let many : 66 ≤ newlines (after_lines bytes) = grind (arith, nat_tests) in many, λ head rest reads. absurd (none head rest reads))
+    ]
+
+pub returns-in-Err-TooManyHeaders : goal.returns-in-Err-TooManyHeaders
+returns-in-Err-TooManyHeaders c =
+    let bytes = c.args.bytes.now in
+    let arm = c.in-Err-TooManyHeaders in
+    let over : c.parse_request.result ≡ Err TooManyHeaders = arm.is ∙ ap Err arm.field-0-is in
+    let P : ℕ → Type 0 = λ room. RequestExceeds room bytes in
+    inr (
+      exceeds_newlines bytes (subst P c.told-headers (c.parse_request.ensures.too_many over)),
+      λ head rest reads. omega (arith, c.told-headers, arm.ensures.no_room [] head rest (let Q : List ℕ → Type 0 = λ b. ReadsRequest b head rest in subst Q (sym (append-nil bytes)) reads)),
+    )

@@ -1,0 +1,10 @@
+use Rattle.std.proofs.Common.{◌≡◌, ◌≤◌, ◌-◌, List, ℕ, ◌++◌, length}
+use Rattle.http_session.proofs.reader.take_head.Given as goal
+
+abbrev pub invariant-loop-spans : goal.invariant-loop-spans
+invariant-loop-spans g l = record {
+  count : g.L.Link.faults l.fn.link ≤ g.L.Link.faults l.link;
+}
+
+abbrev pub decreases-loop-spans : goal.decreases-loop-spans
+decreases-loop-spans g l = 16384 - length l.buffer

@@ -1,0 +1,49 @@
+-- How long a request's body is, and whether its connection closes after it (RFC 9112, sections 6 and 9.6).
+use Rattle.std.specs.Prelude.{ℕ, ◌==◌, ◌||◌, ◌&&◌, Bool, List, [], ◌∷◌, length, nat_le, Option, Some, None, Result, Ok, Err, if◌then◌else◌, codes, nat_eq}
+use Rattle.std.specs.Char.{is_ascii_digit}
+use Rattle.std.specs.Cmp.Lexicographic.{pointwise}
+use Rattle.std.specs.List.{list_all, list_any, slice_split}
+use Rattle.std.specs.Str.Parse.{digits_value}
+use Rattle.httparse.specs.Ascii.{comma}
+use Rattle.httparse.specs.Grammar.{RequestHead, trim_ows}
+use Rattle.http_session.specs.Heads.{is_same_text, headers_of, all_named, first_named}
+use Rattle.http_session.specs.declared.bad_request.BadRequest.{BadRequest}
+use Rattle.http_session.specs.declared.bad_request.BadRequest.TheVariants.{Malformed, BodyTooLarge, Chunked}
+
+-- 1 to 19 digits
+abbrev pub is_length : List ℕ → Bool
+is_length text = nat_le 1 (length text) && nat_le (length text) 19 && list_all is_ascii_digit text
+
+-- the length that a Content-Length says, at most 8,388,608
+abbrev pub length_in : List ℕ → Result ℕ BadRequest
+length_in text =
+    if is_length text then (if nat_le (digits_value 10 text) 8388608 then Ok (digits_value 10 text) else Err BodyTooLarge) else Err Malformed
+
+-- The body's length, by the first Transfer-Encoding and all of Content-Length. Of several faults that of
+-- the form comes before that of the size.
+abbrev pub length_by : Option (List ℕ) → List (List ℕ) → Result ℕ BadRequest
+length_by None [] = Ok 0
+length_by None (text ∷ []) = length_in text
+length_by None (text ∷ other ∷ more) = Err Malformed
+length_by (Some coding) [] = if is_same_text coding (codes "chunked") then Err Chunked else Err Malformed
+length_by (Some coding) (text ∷ more) = Err Malformed
+
+abbrev pub body_length_of : List (List ℕ × List ℕ) → Result ℕ BadRequest
+body_length_of headers = length_by (first_named (codes "transfer-encoding") headers) (all_named (codes "content-length") headers)
+
+-- a member of Connection is `close`, spaces and tabs around it left out
+abbrev pub is_close : List ℕ → Bool
+is_close member = is_same_text (trim_ows member) (codes "close")
+
+-- a value of Connection, split at its commas, has such a member
+abbrev pub has_close : List ℕ → Bool
+has_close value = list_any is_close (slice_split (λ b. b == comma) value)
+
+-- The connection closes after this request: a Connection header says so, the version is 1.0, the method
+-- is HEAD, or it is request 1,000,000 of its connection.
+abbrev pub closes : ℕ → RequestHead → Bool
+closes number head =
+    list_any has_close (all_named (codes "connection") (headers_of head))
+    || head.minor == 0
+    || pointwise nat_eq head.method (codes "HEAD")
+    || nat_le 1000000 number

@@ -1,0 +1,15 @@
+pub mod Link
+pub mod Heads
+pub mod HeadRead
+pub mod Named
+pub mod Framing
+pub mod Asked
+pub mod InHead
+pub mod BodyBytes
+pub mod Reply
+pub mod Written
+pub mod Takes
+pub mod Waiting
+pub mod ReaderState
+pub mod Answers
+pub mod Pulled

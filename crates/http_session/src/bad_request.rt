@@ -1,0 +1,29 @@
+//! Why bytes are no request that is served.
+
+/// The faults of a connection's bytes. After each of them the connection is closed.
+#[derive(Clone, Copy, Debug, PartialEq, Eq)]
+pub enum BadRequest {
+    /// No head, or headers that say no body's length.
+    Malformed,
+    /// More than 64 headers, or no whole head in 16,384 bytes.
+    HeadTooLarge,
+    /// A Content-Length above 8,388,608.
+    BodyTooLarge,
+    /// Transfer-Encoding is `chunked`, which isn't read.
+    Chunked,
+    /// The input ended inside a request.
+    CutOff,
+}
+
+impl BadRequest {
+    /// The code that a reply shows. A request that was cut off has no reply, and one whose body is
+    /// chunked has none of these codes.
+    pub fn code(self) -> Option<&'static str> {
+        match self {
+            BadRequest::Malformed => Some("H1"),
+            BadRequest::HeadTooLarge => Some("H2"),
+            BadRequest::BodyTooLarge => Some("H3"),
+            BadRequest::Chunked | BadRequest::CutOff => None,
+        }
+    }
+}

@@ -1,0 +1,162 @@
+//! A link over memory, which tells all that it does.
+ghost use Rattle.std.specs.Prelude.{◌≡◌, ℕ, ◌+◌, ◌-◌, ◌^◌, ◌≤◌, ◌<◌, ◌++◌, [], min, length, Contains, IsTrue, ◌↔◌, OnOk, OnErr};
+ghost use Rattle.std.specs.Prelude.{take, drop};
+
+use crate::link::{Failed, LAST_MOMENT, Link};
+use std::alloc::Global;
+use std::marker::Model;
+
+/// A connection whose input stands in memory and whose output is kept.
+#[derive(Drop)]
+pub struct MemoryLink {
+    input: Vec<u8>,
+    at: usize,
+    cuts: Vec<usize>,
+    output: Vec<u8>,
+    moment: u64,
+    failing: Vec<u64>,
+    calls: u64,
+    failed: u64,
+    refused: u64,
+}
+
+impl Model for MemoryLink {
+    ghost use Rattle.std.specs.Prelude.{◌≤◌, take, drop, length};
+    ghost use Rattle.http_session.specs.Link.{MemoryView};
+
+    ghost Value = { MemoryView };
+
+    ghost view = { λ a. record {
+      told = record {
+        taken = take a.at a.input.items;
+        given = a.output.items;
+        to_come = drop a.at a.input.items;
+        moment = a.moment;
+      };
+      cuts = a.cuts.items;
+      failing = a.failing.items;
+      calls = a.calls;
+      failed = a.failed;
+      refused = a.refused;
+    } };
+
+    ghost invariant = { λ a. (a.at ≤ length a.input.items) × (a.moment ≤ 253402300799999) };
+}
+
+impl MemoryLink {
+    /// A link that gives the input in pieces that end at the cuts, and fails the reads and writes of
+    /// these numbers, counted together from 0. A cut that would make an empty piece counts for nothing.
+    pub fn new(
+        alloc: Global,
+        input: Vec<u8>,
+        cuts: Vec<usize>,
+        now: u64,
+        failing: Vec<u64>,
+    ) -> MemoryLink
+        requires { now ≤ LAST_MOMENT }
+        ensures taken { result.told.taken ≡ [] }
+        ensures to_come { result.told.to_come ≡ input.items }
+        ensures given { result.told.given ≡ [] }
+        ensures moment { result.told.moment ≡ now }
+        ensures script { (result.cuts ≡ cuts.items) × (result.failing ≡ failing.items) }
+        ensures counts { (result.calls ≡ 0) × (result.failed ≡ 0) × (result.refused ≡ 0) }
+    {
+        MemoryLink {
+            input,
+            at: 0,
+            cuts,
+            output: Vec::new(alloc),
+            moment: now,
+            failing,
+            calls: 0,
+            failed: 0,
+            refused: 0,
+        }
+    }
+
+    /// The bytes given so far.
+    pub fn given(&self) -> &[u8]
+        ensures { result.now ≡ self.now.told.given }
+    {
+        &self.output
+    }
+
+    /// How many writes failed for want of memory.
+    pub fn refused(&self) -> u64
+        ensures { result ≡ self.now.refused }
+    {
+        self.refused
+    }
+
+    // Counts a read or a write, and fails it where its number is one of those that fail.
+    fn begin(&mut self) -> Result<(), Failed>
+        ensures told { self.new.told ≡ self.old.told }
+        ensures script { (self.new.cuts ≡ self.old.cuts) × (self.new.failing ≡ self.old.failing) }
+        ensures refused { self.new.refused ≡ self.old.refused }
+        ensures calls { self.new.calls ≡ min (self.old.calls + 1) (2 ^ 64 - 1) }
+        ensures ok { OnOk result (self.new.failed ≡ self.old.failed) }
+        ensures err { OnErr result (self.new.failed ≡ min (self.old.failed + 1) (2 ^ 64 - 1)) }
+    {
+        let call = self.calls;
+        self.calls = call.saturating_add(1);
+        if self.failing.contains(&call) {
+            self.failed = self.failed.saturating_add(1);
+            return Err(Failed);
+        }
+        Ok(())
+    }
+}
+
+// Where the piece that begins at a place ends: at the first cut past it, or at the end of the input.
+fn piece_end(at: usize, length: usize, cuts: &[usize]) -> usize
+    requires { at ≤ length }
+    ensures within { result ≤ length }
+    ensures never_before { at ≤ result }
+    ensures past { at < length → at < result }
+{
+    let mut end = length;
+    for cut in cuts {
+        if at < *cut && *cut < end {
+            end = *cut;
+        }
+    }
+    end
+}
+
+impl Link for MemoryLink {
+    ghost use Rattle.std.specs.Prelude.{◌+◌, ◌-◌, ◌^◌, min, Some};
+
+    ghost told = { λ link. Some link.told };
+
+    ghost faults = { λ link. min (link.failed + link.refused) (2 ^ 64 - 1) };
+
+    fn read(&mut self, into: &mut [u8]) -> Result<usize, Failed> {
+        self.begin()?;
+        let end = piece_end(self.at, self.input.len(), &self.cuts);
+        let count = into.len().min(end - self.at);
+        into[..count].copy_from_slice(&self.input[self.at..self.at + count]);
+        self.at += count;
+        Ok(count)
+    }
+
+    fn write(&mut self, from: &[u8]) -> Result<usize, Failed> {
+        self.begin()?;
+        match self.output.extend_from_slice(from) {
+            Ok(()) => Ok(from.len()),
+            Err(_) => {
+                self.refused = self.refused.saturating_add(1);
+                Err(Failed)
+            }
+        }
+    }
+
+    fn moment(&mut self) -> u64 {
+        self.moment
+    }
+
+    fn end(&mut self) {}
+
+    fn faults(&self) -> u64 {
+        self.failed.saturating_add(self.refused)
+    }
+}

@@ -1,0 +1,201 @@
+//! Requests from a link, one after another.
+ghost use Rattle.std.specs.Prelude.{◌≡◌, ◌≤◌, ◌+◌, ℕ, [], false, true, length, IfOk, IfErr};
+ghost use Rattle.httparse.specs.Grammar.{RequestHead};
+ghost use Rattle.http_session.specs.Link.{Rose};
+ghost use Rattle.http_session.specs.HeadRead.{IsHeadAt};
+ghost use Rattle.http_session.specs.Answers.{IsFaultOf, Continues};
+
+use crate::bad_request::BadRequest;
+use crate::buffer::Buffer;
+use crate::framing::body_length;
+use crate::head::{HEADER_LIMIT, HeadRead, read_head, skip_lines};
+use crate::link::{Failed, Link};
+use crate::request::{REQUEST_LIMIT, Request};
+use httparse::spans::{EMPTY_HEADER_SPAN, HeaderSpan, RequestSpans};
+use std::alloc::Global;
+use std::marker::Model;
+use std::mem;
+
+/// What a reader answers.
+#[derive(Drop)]
+pub enum NextRequest {
+    Request(Request),
+    /// The input ended between requests, or an earlier answer wasn't a request.
+    End,
+    Bad(BadRequest),
+    /// The link failed; this is its count of faults.
+    LinkFault(u64),
+    /// Memory ran out.
+    Memory,
+}
+
+// Why there is no next request.
+#[derive(Drop)]
+enum Stop {
+    End,
+    Bad(BadRequest),
+    LinkFault(u64),
+    Memory,
+}
+
+#[derive(Drop)]
+enum State {
+    // No request was asked for yet, and no memory was taken.
+    Fresh,
+    Open(Buffer),
+    Ended,
+}
+
+/// Reads the requests of one connection. It holds what came after the last of them.
+#[derive(Drop)]
+pub struct Reader {
+    alloc: Global,
+    state: State,
+    // How many requests were given, and the limit from that one on.
+    given: u32,
+}
+
+impl Model for Reader {
+    ghost use Rattle.std.specs.Prelude.{◌≤◌};
+    ghost use Rattle.http_session.specs.Waiting.{Waiting};
+
+    ghost Value = { Waiting };
+
+    ghost use Rattle.http_session.specs.ReaderState.{held_in, is_ended};
+
+    ghost view = { λ a. record { held = held_in a.state; ended = is_ended a.state; given = a.given } };
+
+    ghost invariant = { λ a. a.given ≤ 1000000 };
+}
+
+impl Reader {
+    /// It takes no memory before the first request is asked for.
+    pub fn new(alloc: Global) -> Reader
+        ensures { result ≡ record { held = []; ended = false; given = 0 } }
+    {
+        Reader {
+            alloc,
+            state: State::Fresh,
+            given: 0,
+        }
+    }
+
+    /// The next request of the connection. After any answer but a request it answers `End`.
+    pub fn next_request<L: Link>(&mut self, link: &mut L) -> NextRequest
+        ensures fault { (count : ℕ) → result ≡ NextRequest.LinkFault count
+            → Rose (L.faults link.old) (L.faults link.new) × (count ≡ L.faults link.new) }
+        ensures count { L.faults link.old ≤ L.faults link.new }
+        ensures after_end { self.old.ended ≡ true → (result ≡ NextRequest.End) × (L.told link.new ≡ L.told link.old) × (L.faults link.new ≡ L.faults link.old) }
+        ensures ends { Continues result self.old self.new }
+    {
+        let mut buffer = match mem::replace(&mut self.state, State::Ended) {
+            State::Ended => return NextRequest::End,
+            State::Open(buffer) => buffer,
+            State::Fresh => match Buffer::new(self.alloc) {
+                Ok(buffer) => buffer,
+                Err(_) => return NextRequest::Memory,
+            },
+        };
+        let number = (self.given + 1).min(REQUEST_LIMIT);
+        match take_request(self.alloc, &mut buffer, number, link) {
+            Ok(request) => {
+                self.state = State::Open(buffer);
+                self.given = number;
+                NextRequest::Request(request)
+            }
+            Err(Stop::End) => NextRequest::End,
+            Err(Stop::Bad(bad)) => NextRequest::Bad(bad),
+            Err(Stop::LinkFault(count)) => NextRequest::LinkFault(count),
+            Err(Stop::Memory) => NextRequest::Memory,
+        }
+    }
+}
+
+// Takes the request of this number: its head, and then its body.
+fn take_request<L: Link>(
+    alloc: Global,
+    buffer: &mut Buffer,
+    number: u32,
+    link: &mut L,
+) -> Result<Request, Stop>
+    ensures count { L.faults link.old ≤ L.faults link.new }
+    ensures fault { IfErr result (IsFaultOf (L.faults link.old) (L.faults link.new)) }
+{
+    let mut headers = [EMPTY_HEADER_SPAN; HEADER_LIMIT];
+    let spans = take_head(buffer, &mut headers, link)?;
+    let text = &buffer.held()[..spans.len];
+    let headers = &headers[..spans.headers];
+    let size = match body_length(text, headers) {
+        Ok(size) => size,
+        Err(bad) => return Err(Stop::Bad(bad)),
+    };
+    let request = match Request::of_head(alloc, text, headers, &spans, number) {
+        Ok(request) => request,
+        Err(_) => return Err(Stop::Memory),
+    };
+    buffer.consume(spans.len);
+    let body = take_body(alloc, buffer, size, link)?;
+    Ok(request.with_body(body, link.moment()))
+}
+
+// Fills the buffer until a whole head stands at its front.
+fn take_head<L: Link>(
+    buffer: &mut Buffer,
+    headers: &mut [HeaderSpan; HEADER_LIMIT],
+    link: &mut L,
+) -> Result<RequestSpans, Stop>
+    ensures count { L.faults link.old ≤ L.faults link.new }
+    ensures fault { IfErr result (IsFaultOf (L.faults link.old) (L.faults link.new)) }
+    ensures head { IfOk result (λ spans. (head : RequestHead) × IsHeadAt buffer.new headers.new spans head) }
+{
+    loop {
+        match read_head(buffer.held(), headers) {
+            HeadRead::Whole(spans) => return Ok(spans),
+            HeadRead::TooLarge => return Err(Stop::Bad(BadRequest::HeadTooLarge)),
+            HeadRead::Refused => return Err(Stop::Bad(BadRequest::Malformed)),
+            HeadRead::Unfinished => {}
+        }
+        match buffer.fill(link) {
+            Ok(0) => return Err(unfinished(buffer.held())),
+            Ok(_) => {}
+            Err(Failed) => return Err(Stop::LinkFault(link.faults())),
+        }
+    }
+}
+
+// The input ended here, before a whole head.
+fn unfinished(bytes: &[u8]) -> Stop
+    ensures { (before : ℕ) → (now : ℕ) → IsFaultOf before now result }
+{
+    if skip_lines(bytes).is_empty() {
+        Stop::End
+    } else {
+        Stop::Bad(BadRequest::CutOff)
+    }
+}
+
+// Takes a body of this size: what is held of it, and the rest from the link into its own buffer.
+fn take_body<L: Link>(
+    alloc: Global,
+    buffer: &mut Buffer,
+    size: usize,
+    link: &mut L,
+) -> Result<Vec<u8>, Stop>
+    ensures count { L.faults link.old ≤ L.faults link.new }
+    ensures fault { IfErr result (IsFaultOf (L.faults link.old) (L.faults link.new)) }
+{
+    let Ok(mut body) = Vec::from_elem(alloc, 0u8, size) else {
+        return Err(Stop::Memory);
+    };
+    let mut filled = size.min(buffer.held().len());
+    body[..filled].copy_from_slice(&buffer.held()[..filled]);
+    buffer.consume(filled);
+    while filled < size {
+        match link.read(&mut body[filled..]) {
+            Ok(0) => return Err(Stop::Bad(BadRequest::CutOff)),
+            Ok(count) => filled += count,
+            Err(Failed) => return Err(Stop::LinkFault(link.faults())),
+        }
+    }
+    Ok(body)
+}

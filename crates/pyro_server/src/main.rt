@@ -1,0 +1,37 @@
+//! A continuous profiling server: pushes of profiles in, flame graphs and lists out.
+#![tactic(auto)]
+
+mod outcome;
+mod session;
+mod settle;
+mod status;
+#[cfg(test)]
+mod tests;
+mod words;
+
+use http_session::StdioLink;
+pub use outcome::{Outcome, run};
+pub use session::{Ended, run_session};
+pub use status::Status;
+use std::alloc::Global;
+use std::process::ExitCode;
+use std::{env, io};
+
+fn main(rt: HostRuntime) -> ExitCode {
+    let Ok(words) = words_of(&rt) else {
+        return ExitCode::from(Status::NoCommand.code());
+    };
+    let alloc = rt.alloc();
+    let stdio = StdioLink::new(rt);
+    let outcome = run(alloc, &words, (), stdio, (), (), &());
+    ExitCode::from(outcome.status.code())
+}
+
+// The words after the program's name.
+fn words_of(rt: &HostRuntime) -> io::Result<Vec<String>> {
+    let mut words = Vec::new(rt.alloc());
+    for word in env::args(rt)?.skip(1) {
+        words.push(word)?;
+    }
+    Ok(words)
+}

@@ -1,0 +1,56 @@
+// The top call.
+use crate::session::run_session;
+use crate::status::Status;
+use crate::words::{Command, command_of};
+use api_replies::Config;
+use http_session::Link;
+use profile_model::Push;
+use std::alloc::Global;
+
+/// How a run ended, with all that was handed in.
+#[derive(Drop)]
+pub struct Outcome<D, L, F, E> {
+    pub status: Status,
+    pub disk: D,
+    pub stdio: L,
+    pub doors: F,
+    pub finish: E,
+    /// The accepted pushes, in order.
+    pub history: Vec<Push>,
+}
+
+/// Does what the words after the program's name ask for. What isn't used is given back as it was.
+pub fn run<D, L: Link, F, E, G>(
+    alloc: Global,
+    words: &[String],
+    disk: D,
+    stdio: L,
+    doors: F,
+    finish: E,
+    _gate: &G,
+) -> Outcome<D, L, F, E> {
+    match command_of(words) {
+        Some(Command::Session) => {
+            let config = Config {
+                single_tenant: false,
+            };
+            let ended = run_session(alloc, disk, stdio, config);
+            Outcome {
+                status: ended.status,
+                disk: ended.disk,
+                stdio: ended.stdio,
+                doors,
+                finish,
+                history: ended.history,
+            }
+        }
+        None => Outcome {
+            status: Status::NoCommand,
+            disk,
+            stdio,
+            doors,
+            finish,
+            history: Vec::new(alloc),
+        },
+    }
+}

@@ -1,0 +1,36 @@
+// How a run ended.
+ghost use Rattle.std.specs.Prelude.{◌≡◌};
+ghost use Rattle.pyro_server.specs.Statuses.{code_of};
+
+/// How a run ended.
+#[derive(Clone, Copy, Debug, PartialEq, Eq)]
+pub enum Status {
+    /// The input ended between two requests, or the last request asked for closing and was answered.
+    Done,
+    /// The words are no command.
+    NoCommand,
+    /// Memory ran out while a request was read.
+    NoMemory,
+    /// The standard stream counted a fault.
+    StreamFault,
+    /// The connection's last request, number 1,000,000, was answered.
+    LastRequest,
+    /// The connection's bytes were no request.
+    BadRequest,
+}
+
+impl Status {
+    /// The exit status of the program.
+    pub fn code(self) -> u8
+        ensures { result ≡ code_of self }
+    {
+        match self {
+            Status::Done => 0,
+            Status::NoCommand => 2,
+            Status::NoMemory => 3,
+            Status::StreamFault => 6,
+            Status::LastRequest => 9,
+            Status::BadRequest => 11,
+        }
+    }
+}

@@ -1,12 +1,13 @@
 // What a history holds of one tenant.
-ghost use Rattle.std.specs.Prelude.{◌≡◌, ◌^◌, ◌<◌};
+ghost use Rattle.std.specs.Prelude.{◌≡◌, ◌^◌, ◌<◌, ◌≤◌, length};
 ghost use Rattle.profile_model.specs.History.{front_of, tenant_total};
 
 use crate::{Push, Tenant};
 
 /// How many pushes of the tenant there are.
 pub fn front(history: &[Push], tenant: &Tenant) -> u64
-    ensures { result ≡ front_of history.now tenant.now }
+    ensures front { result ≡ front_of history.now tenant.now }
+    ensures few { result ≤ length history.now }
 {
     history.iter().filter(|push| push.tenant == *tenant).count() as u64
 }

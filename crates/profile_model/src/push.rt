@@ -1,5 +1,5 @@
 // What one accepted write request means.
-ghost use Rattle.std.specs.Prelude.{◌≡◌, ◌≤◌, length};
+ghost use Rattle.std.specs.Prelude.{◌≡◌, ◌^◌, ◌≤◌, length};
 ghost use Rattle.profile_model.specs.Pushes.{profiles_total};
 
 use crate::{Profile, Profiles, Tenant};
@@ -14,7 +14,8 @@ pub struct Push {
 impl Push {
     /// The sum of all values of all profiles.
     pub fn total(&self) -> u128
-        ensures { result ≡ profiles_total self.now.profiles }
+        ensures total { result ≡ profiles_total self.now.profiles }
+        ensures bound { result ≤ 2 ^ 75 }
     {
         total_of_profiles(self.profiles.as_slice())
     }
@@ -22,7 +23,8 @@ impl Push {
 
 fn total_of_profiles(profiles: &[Profile]) -> u128
     requires { length profiles.now ≤ 4096 }
-    ensures { result ≡ profiles_total profiles.now }
+    ensures total { result ≡ profiles_total profiles.now }
+    ensures bound { result ≤ 2 ^ 75 }
 {
     let mut total: u128 = 0;
     for profile in profiles {

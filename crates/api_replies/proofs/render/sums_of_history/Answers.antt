@@ -22,12 +22,13 @@ loop-push-preserved c =
     let next = tenant_total-next history tenant c.loop-push.push-index c.push-item.result (omega arith) c.push-item.is in
     let so_far : total_of c.loop-push.sums ≤ tenant_total (take c.loop-push.push-index history) tenant = c.loop-push.invariant in
     elim c.if-eq.branch [
-      then-eq+in_ok-add_profiles w ↦
-        let own = sym c.eq.ensures ∙ w.if-eq.true in
-        let whole = rw own at next in
-        let added = rw w.as_slice.ensures.value at w.in_ok-add_profiles.ensures.ok in
-        let kept : total_of c.if-eq.sums ≤ tenant_total (take (c.loop-push.push-index + 1) history) tenant = rw w.sums-is (omega arith) in kept
-    | else-eq w ↦
-        let other = sym c.eq.ensures ∙ w.if-eq.false in
-        let whole = rw other at next in
-        let kept : total_of c.if-eq.sums ≤ tenant_total (take (c.loop-push.push-index + 1) history) tenant = rw w.sums-is (omega arith) in kept ]
+      | then-eq+in_ok-add_profiles w ↦
+          let own = sym c.eq.ensures ∙ w.if-eq.true in
+          let whole = rw own at next in
+          let added = rw w.as_slice.ensures.value at w.in_ok-add_profiles.ensures.ok in
+          let kept : total_of c.if-eq.sums ≤ tenant_total (take (c.loop-push.push-index + 1) history) tenant = rw w.sums-is (omega arith) in kept
+      | else-eq w ↦
+          let other = sym c.eq.ensures ∙ w.if-eq.false in
+          let whole = rw other at next in
+          let kept : total_of c.if-eq.sums ≤ tenant_total (take (c.loop-push.push-index + 1) history) tenant = rw w.sums-is (omega arith) in kept
+    ]

@@ -1,3 +1,4 @@
+pub mod AnswerLemmas
 pub mod FrameLemmas
 pub mod InternerLemmas
 pub mod LineLemmas
@@ -5,3 +6,4 @@ pub mod ReaderLemmas
 pub mod SplitLemmas
 pub mod SumLemmas
 pub mod WriterLemmas
+pub mod WrittenLemmas

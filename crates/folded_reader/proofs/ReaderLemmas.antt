@@ -31,7 +31,7 @@ AllZip-pushed R [] (b ∷ ys) x y all one = absurd all
 AllZip-pushed R (a ∷ xs) [] x y all one = absurd all
 AllZip-pushed R (a ∷ xs) (b ∷ ys) x y all one = (all.0, AllZip-pushed R xs ys x y all.1 one)
 
-has_bytes_test : (line : List ℕ) → 0 < length line → nat_lt 0 (length line) ≡ true
+pub has_bytes_test : (line : List ℕ) → 0 < length line → nat_lt 0 (length line) ≡ true
 has_bytes_test line some = grind (arith, nat_tests)
 
 no_bytes_test : (line : List ℕ) → length line ≡ 0 → nat_lt 0 (length line) ≡ false

@@ -87,8 +87,9 @@ total-sums_of samples = let all = total-fold samples [] tt in omega arith
 pub sums_of-push : (samples : List Sample) (sample : Sample) → sums_of (samples ++ sample ∷ []) ≡ with_added (sums_of samples) sample.0 sample.1
 sums_of-push samples sample = fold_push add_sample [] samples sample
 
+pub total-append : (xs ys : List Sample) → total_of (xs ++ ys) ≡ total_of xs + total_of ys
+total-append xs ys =
+    ap (λ vs. sum_by (λ v. v) vs) (map-append (λ s. s.1) xs ys) ∙ sum_by-append (λ v. v) (values_of xs) (values_of ys)
+
 pub total-push : (samples : List Sample) (sample : Sample) → total_of (samples ++ sample ∷ []) ≡ total_of samples + sample.1
-total-push samples sample =
-    let parts : total_of (samples ++ sample ∷ []) ≡ total_of samples + total_of (sample ∷ []) =
-    ap (λ vs. sum_by (λ v. v) vs) (map-append (λ s. s.1) samples (sample ∷ [])) ∙ sum_by-append (λ v. v) (values_of samples) (sample.1 ∷ []) in
-    let one = total-cons sample [] in omega arith
+total-push samples sample = let parts = total-append samples (sample ∷ []) in let one = total-cons sample [] in omega arith

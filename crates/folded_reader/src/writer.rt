@@ -1,5 +1,5 @@
 // Sums to folded text.
-ghost use Rattle.std.specs.Prelude.{◌≡◌, ◌++◌, ◌∷◌, map, IfOk, OnOk};
+ghost use Rattle.std.specs.Prelude.{◌≡◌, ◌++◌, ◌∷◌, length, map, min, IfOk, OnOk};
 ghost use Rattle.folded_reader.specs.Written.{written_byte, written_stack, written_line, written_text};
 
 use itoa::Buffer;
@@ -19,7 +19,9 @@ pub fn write_folded(alloc: Global, values: &StackSums) -> Result<Vec<u8>, AllocE
 }
 
 // The length of the text, or the greatest number where it is larger: no memory holds either.
-fn length_of(values: &StackSums) -> usize {
+fn length_of(values: &StackSums) -> usize
+    ensures { result ≡ min (length (written_text values.now)) usize.MAX }
+{
     let mut length: usize = 0;
     for (stack, value) in values.iter() {
         length = length.saturating_add(line_length(stack, *value));
@@ -27,7 +29,9 @@ fn length_of(values: &StackSums) -> usize {
     length
 }
 
-fn line_length(stack: &Stack, value: u64) -> usize {
+fn line_length(stack: &Stack, value: u64) -> usize
+    ensures { result ≡ min (length (written_line (stack.now, value))) usize.MAX }
+{
     let mut length = Buffer::new().format(value).len() + 1;
     for frame in stack.frames() {
         length = length.saturating_add(frame.len()).saturating_add(1);

@@ -1,12 +1,13 @@
 -- What a buffer holds after more bytes were read behind those that it held.
-use Rattle.std.proofs.Common.{◌≡◌, ℕ, ◌+◌, ◌-◌, ◌<◌, ◌≤◌, List, [], ◌∷◌, ◌++◌, length, take, drop, ap, ◌∙◌, arith, length-drop, append-nil, sym, Ok}
+use Rattle.std.proofs.Common.{◌≡◌, ℕ, ◌+◌, ◌-◌, ◌<◌, ◌≤◌, List, ◌++◌, length, take, drop, ap, ◌∙◌, arith, length-drop, length-append, append-nil, sym, subst, Ok}
 use Rattle.std.proofs.lemmas.List.{length-take-le, nil_from_length, drop-take}
 use Rattle.std.proofs.lemmas.List.Edits.{take-paste}
 use Rattle.std.specs.List.{copy_within}
 use Rattle.std.proofs.Math.Seq.{take-append-add}
-use Rattle.http_session.specs.Link.{Told, ReadStep}
+use Rattle.http_session.specs.Link.{Told, Took, ReadStep}
 use Rattle.http_session.specs.Pulled.{FillStep}
-use borrow.Rule.Slice.PartMut.{post_of}
+use Rattle.http_session.proofs.GoesLemmas.{took_then}
+use borrow.Rule.Slice.PartMut.{post_of, put_mid}
 
 -- the first bytes, and those that were read behind them
 pub front_more : (xs into : List ℕ) (end count : ℕ) → end ≤ length xs → take (end + count) (take end xs ++ into) ≡ take end xs ++ take count into
@@ -34,3 +35,18 @@ moved_front xs count end order fits =
     ∙ take-paste xs 0 (drop count xs) (end - count) (omega arith) enough
     ∙ sym (drop-take count (end - count) xs)
     ∙ ap (λ n. drop count (take n xs)) (let whole : count + (end - count) ≡ end = omega arith in whole)
+
+-- a read to the front of what is left to fill, as more that came
+pub rest_more : (xs into : List ℕ) (at count room : ℕ) (a b c : Told) → at ≤ length xs → Took (take at xs) a b → ReadStep (Ok count) room into b c →
+    Took (take (at + count) (put_mid at (length xs - at) xs into)) a c
+rest_more xs into at count room a b c fits took step =
+    let all : put_mid at (length xs - at) xs into ≡ take at xs ++ into = ap (λ (ys : List ℕ). take at xs ++ ys) (nothing_after xs into at) in
+    let same : take (at + count) (put_mid at (length xs - at) xs into) ≡ take at xs ++ take count into =
+    ap (λ (ys : List ℕ). take (at + count) ys) all ∙ front_more xs into at count fits in
+    let P : List ℕ → Type 0 = λ piece. Took piece a c in
+    subst P (sym same) (took_then (take at xs) (take count into) a b c took step.0)
+
+pub length_filled : (xs into : List ℕ) (at : ℕ) → at ≤ length xs → length into ≡ length xs - at → length (put_mid at (length xs - at) xs into) ≡ length xs
+length_filled xs into at fits size =
+    ap length (ap (λ (ys : List ℕ). take at xs ++ ys) (nothing_after xs into at))
+    ∙ (let long = length-take-le at xs fits in let both = length-append (take at xs) into in omega (arith, long, both, size))

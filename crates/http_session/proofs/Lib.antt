@@ -4,6 +4,9 @@ pub mod GoesLemmas
 pub mod JoinLemmas
 pub mod LinkLemmas
 pub mod NewlineLemmas
+pub mod ReaderLemmas
+pub mod RequestLemmas
 pub mod SpanLemmas
+pub mod TakesLemmas
 pub mod TargetLemmas
 pub mod NamedLemmas

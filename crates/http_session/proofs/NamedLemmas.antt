@@ -1,7 +1,7 @@
 -- Headers by name, one at a time.
-use Rattle.std.proofs.Common.{◌≡◌, ℕ, List, [], ◌∷◌, Bool, true, false, map, filter, refl, nat_eq}
+use Rattle.std.proofs.Common.{◌≡◌, ℕ, List, ◌∷◌, false, map}
 use Rattle.std.specs.Char.{to_ascii_lowercase}
-use Rattle.std.specs.Cmp.Lexicographic.{pointwise, bytes_decides}
+use Rattle.std.specs.Cmp.Lexicographic.{bytes_decides}
 use Rattle.std.proofs.lemmas.Bool.{false_from_ne_true}
 use Rattle.http_session.specs.Heads.{is_same_text, all_named}
 

@@ -1,15 +1,14 @@
 -- What spans cover stays the same in the text of the head alone.
-use Rattle.std.proofs.Common.{◌≡◌, ℕ, ◌+◌, ◌-◌, ◌<◌, ◌≤◌, List, [], ◌∷◌, ◌++◌, length, take, drop, map, refl, sym, subst, ap, ap₂, ◌∙◌, arith, length-take, slice_range}
+use Rattle.std.proofs.Common.{◌≡◌, ℕ, ◌+◌, ◌-◌, ◌≤◌, List, [], ◌∷◌, length, take, drop, map, refl, sym, subst, ap, ap₂, ◌∙◌, arith, length-take, slice_range}
 use Rattle.std.specs.List.{All}
 use Rattle.std.proofs.lemmas.List.{take-take, drop-take, length-take-le, length-map}
 use Rattle.std.proofs.lemmas.List.Elements.{All-head, All-tail}
 use Rattle.httparse.specs.declared.spans.Span.{Span}
 use Rattle.httparse.specs.declared.spans.HeaderSpan.{HeaderSpan}
 use Rattle.httparse.specs.declared.spans.RequestSpans.{RequestSpans}
-use Rattle.httparse.specs.Grammar.{RequestHead, print_request, ReadsRequest}
+use Rattle.httparse.specs.Grammar.{RequestHead}
 use Rattle.httparse.specs.Spans.{span_bytes, IsWithin, IsHeaderWithin, header_bytes, IsRequestWithin, IsRequestAt, name_and_value}
-use Rattle.http_session.specs.Heads.{BeginsWithHead, headers_of}
-use Rattle.http_session.specs.HeadRead.{Covers, IsHeadAt}
+use Rattle.http_session.specs.HeadRead.{IsHeadAt}
 
 -- a span in the first n bytes covers the same in these alone
 pub span_in_front : (n : ℕ) (bytes : List ℕ) (span : Span) → IsWithin n span → span_bytes (take n bytes) span ≡ span_bytes bytes span

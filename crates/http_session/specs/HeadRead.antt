@@ -1,7 +1,7 @@
 -- What the reader of a head answers, and what its spans say of the head's text.
 use Rattle.std.specs.Prelude.{◌≡◌, ℕ, ◌≤◌, List, length, map, drop, take, All}
 use Rattle.httparse.specs.Grammar.{RequestHead, NeverHasRequest}
-use Rattle.httparse.specs.Spans.{IsWithin, IsHeaderWithin, IsRequestWithin, IsRequestAt, span_bytes, header_bytes}
+use Rattle.httparse.specs.Spans.{IsWithin, IsHeaderWithin, span_bytes, header_bytes}
 use Rattle.httparse.specs.declared.spans.HeaderSpan.{HeaderSpan}
 use Rattle.httparse.specs.declared.spans.RequestSpans.{RequestSpans}
 use Rattle.http_session.specs.Heads.{BeginsWithHead, IsHeadTooLarge, IsUnfinished, headers_of}

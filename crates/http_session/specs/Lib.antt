@@ -9,6 +9,7 @@ pub mod BodyBytes
 pub mod Reply
 pub mod Written
 pub mod Takes
+pub mod TakesLaws
 pub mod Waiting
 pub mod ReaderState
 pub mod Answers

@@ -1,5 +1,5 @@
 -- The requests of a connection's bytes, one after another, and how they end.
-use Rattle.std.specs.Prelude.{◌≡◌, ◌≢◌, ℕ, ◌+◌, ◌<◌, ◌⊎◌, Bool, true, false, List, [], ◌∷◌, ◌++◌, length, Ok, Err, if◌then◌else◌}
+use Rattle.std.specs.Prelude.{◌≡◌, ◌≢◌, ℕ, ◌+◌, ◌<◌, ◌⊎◌, true, false, List, [], ◌∷◌, ◌++◌, length, Ok, Err}
 use Rattle.httparse.specs.Grammar.{RequestHead, NeverHasRequest}
 use Rattle.http_session.specs.Heads.{BeginsWithHead, IsHeadTooLarge, IsUnfinished, after_lines, headers_of}
 use Rattle.http_session.specs.Framing.{body_length_of}

@@ -8,6 +8,7 @@ mod bad_request;
 mod buffer;
 mod framing;
 mod head;
+mod laws;
 mod link;
 mod memory_link;
 mod method;
@@ -20,6 +21,7 @@ mod tests;
 mod write;
 
 pub use bad_request::BadRequest;
+pub use laws::one_reading;
 pub use link::{Failed, LAST_MOMENT, Link};
 pub use memory_link::MemoryLink;
 pub use method::Method;

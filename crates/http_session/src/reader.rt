@@ -1,15 +1,18 @@
 //! Requests from a link, one after another.
-ghost use Rattle.std.specs.Prelude.{◌≡◌, ◌≤◌, ◌+◌, ℕ, [], false, true, length, IfOk, IfErr};
+ghost use Rattle.std.specs.Prelude.{◌≡◌, ◌≤◌, ℕ, [], false, true, min, length, take, drop, IfOk, IfErr};
 ghost use Rattle.httparse.specs.Grammar.{RequestHead};
 ghost use Rattle.http_session.specs.Link.{Rose};
 ghost use Rattle.http_session.specs.HeadRead.{IsHeadAt};
-ghost use Rattle.http_session.specs.Answers.{IsFaultOf, Continues};
+ghost use Rattle.http_session.specs.Answers.{IsFaultOf, Continues, StopsAt, HeadStep, BodyStep, RestStep, RequestStep, AnswerStep};
+ghost use Rattle.http_session.specs.Heads.{IsUnfinished};
+ghost use Rattle.http_session.specs.Link.{Told, Goes};
+ghost use Rattle.http_session.specs.Asked.{Asked};
 
 use crate::bad_request::BadRequest;
 use crate::buffer::Buffer;
 use crate::framing::body_length;
 use crate::head::{HEADER_LIMIT, HeadRead, read_head, skip_lines};
-use crate::link::{Failed, Link};
+use crate::link::{Failed, LAST_MOMENT, Link};
 use crate::request::{REQUEST_LIMIT, Request};
 use httparse::spans::{EMPTY_HEADER_SPAN, HeaderSpan, RequestSpans};
 use std::alloc::Global;
@@ -85,8 +88,13 @@ impl Reader {
         ensures fault { (count : ℕ) → result ≡ NextRequest.LinkFault count
             → Rose (L.faults link.old) (L.faults link.new) × (count ≡ L.faults link.new) }
         ensures count { L.faults link.old ≤ L.faults link.new }
-        ensures after_end { self.old.ended ≡ true → (result ≡ NextRequest.End) × (L.told link.new ≡ L.told link.old) × (L.faults link.new ≡ L.faults link.old) }
+        ensures after_end { self.old.ended ≡ true → (result ≡ NextRequest.End)
+            × (L.told link.new ≡ L.told link.old) × (L.faults link.new ≡ L.faults link.old) }
+        ensures moment { (request : Asked) → result ≡ NextRequest.Request request
+            → request.moment ≤ LAST_MOMENT }
         ensures ends { Continues result self.old self.new }
+        ensures next { self.old.ended ≡ false
+            → Goes (AnswerStep result self.old self.new) (L.told link.old) (L.told link.new) }
     {
         let mut buffer = match mem::replace(&mut self.state, State::Ended) {
             State::Ended => return NextRequest::End,
@@ -120,6 +128,9 @@ fn take_request<L: Link>(
 ) -> Result<Request, Stop>
     ensures count { L.faults link.old ≤ L.faults link.new }
     ensures fault { IfErr result (IsFaultOf (L.faults link.old) (L.faults link.new)) }
+    ensures moment { IfOk result (λ request. request.moment ≤ LAST_MOMENT) }
+    ensures told { Goes (RequestStep number result buffer.old buffer.new)
+        (L.told link.old) (L.told link.new) }
 {
     let mut headers = [EMPTY_HEADER_SPAN; HEADER_LIMIT];
     let spans = take_head(buffer, &mut headers, link)?;
@@ -134,8 +145,10 @@ fn take_request<L: Link>(
         Err(_) => return Err(Stop::Memory),
     };
     buffer.consume(spans.len);
-    let body = take_body(alloc, buffer, size, link)?;
-    Ok(request.with_body(body, link.moment()))
+    match take_body(alloc, buffer, size, link) {
+        Ok(body) => Ok(request.with_body(body, link.moment())),
+        Err(stop) => Err(stop),
+    }
 }
 
 // Fills the buffer until a whole head stands at its front.
@@ -146,7 +159,10 @@ fn take_head<L: Link>(
 ) -> Result<RequestSpans, Stop>
     ensures count { L.faults link.old ≤ L.faults link.new }
     ensures fault { IfErr result (IsFaultOf (L.faults link.old) (L.faults link.new)) }
-    ensures head { IfOk result (λ spans. (head : RequestHead) × IsHeadAt buffer.new headers.new spans head) }
+    ensures head { IfOk result (λ spans. (head : RequestHead)
+        × IsHeadAt buffer.new headers.new spans head) }
+    ensures told { Goes (HeadStep result buffer.old buffer.new)
+        (L.told link.old) (L.told link.new) }
 {
     loop {
         match read_head(buffer.held(), headers) {
@@ -165,7 +181,9 @@ fn take_head<L: Link>(
 
 // The input ended here, before a whole head.
 fn unfinished(bytes: &[u8]) -> Stop
-    ensures { (before : ℕ) → (now : ℕ) → IsFaultOf before now result }
+    ensures fault { (before : ℕ) → (now : ℕ) → IsFaultOf before now result }
+    ensures stops { (now : Told) → IsUnfinished bytes.now → now.to_come ≡ []
+        → StopsAt bytes.now now result }
 {
     if skip_lines(bytes).is_empty() {
         Stop::End
@@ -183,19 +201,44 @@ fn take_body<L: Link>(
 ) -> Result<Vec<u8>, Stop>
     ensures count { L.faults link.old ≤ L.faults link.new }
     ensures fault { IfErr result (IsFaultOf (L.faults link.old) (L.faults link.new)) }
+    ensures told { Goes (BodyStep (λ body. body.items) size result buffer.old buffer.new)
+        (L.told link.old) (L.told link.new) }
 {
     let Ok(mut body) = Vec::from_elem(alloc, 0u8, size) else {
         return Err(Stop::Memory);
     };
-    let mut filled = size.min(buffer.held().len());
-    body[..filled].copy_from_slice(&buffer.held()[..filled]);
-    buffer.consume(filled);
-    while filled < size {
-        match link.read(&mut body[filled..]) {
+    let count = move_held(&mut body, buffer);
+    match fill_rest(&mut body[count..], link) {
+        Ok(()) => Ok(body),
+        Err(stop) => Err(stop),
+    }
+}
+
+// Moves what is held of a body to its front, and says how much.
+fn move_held(body: &mut [u8], buffer: &mut Buffer) -> usize
+    ensures count { result ≡ min (length body.old) (length buffer.old) }
+    ensures body { take result body.new ≡ take result buffer.old }
+    ensures buffer { buffer.new ≡ drop result buffer.old }
+{
+    let count = body.len().min(buffer.held().len());
+    body[..count].copy_from_slice(&buffer.held()[..count]);
+    buffer.consume(count);
+    count
+}
+
+// Reads from the link until the rest of a body is full.
+fn fill_rest<L: Link>(rest: &mut [u8], link: &mut L) -> Result<(), Stop>
+    ensures count { L.faults link.old ≤ L.faults link.new }
+    ensures fault { IfErr result (IsFaultOf (L.faults link.old) (L.faults link.new)) }
+    ensures told { Goes (RestStep result rest.new) (L.told link.old) (L.told link.new) }
+{
+    let mut filled = 0;
+    while filled < rest.len() {
+        match link.read(&mut rest[filled..]) {
             Ok(0) => return Err(Stop::Bad(BadRequest::CutOff)),
             Ok(count) => filled += count,
             Err(Failed) => return Err(Stop::LinkFault(link.faults())),
         }
     }
-    Ok(body)
+    Ok(())
 }

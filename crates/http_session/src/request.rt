@@ -125,6 +125,13 @@ impl Request {
         &self.body
     }
 
+    /// The body alone.
+    pub fn into_body(self) -> Vec<u8>
+        ensures { result.items ≡ self.body }
+    {
+        self.body
+    }
+
     /// The value of the first header X-Scope-OrgID.
     pub fn tenant(&self) -> Option<&[u8]>
         ensures { option_map (λ value. value.now) result ≡ self.now.tenant }

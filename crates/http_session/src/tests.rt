@@ -102,15 +102,39 @@ fn each_fault_is_told_by_its_name(rt: HostRuntime) -> Result<(), Fail> {
         (b"GET / HTTP/1.1\r\n\r\n", "request"),
         (b"\r\n\nGET / HTTP/1.1\n\n", "request"),
         (b"GET\r\n\r\n", "malformed"),
-        (b"GET / HTTP/1.1\r\nContent-Length: 1\r\nContent-Length: 1\r\n\r\na", "malformed"),
-        (b"GET / HTTP/1.1\r\nContent-Length: +1\r\n\r\na", "malformed"),
+        (
+            b"GET / HTTP/1.1\r\nContent-Length: 1\r\nContent-Length: 1\r\n\r\na",
+            "malformed",
+        ),
+        (
+            b"GET / HTTP/1.1\r\nContent-Length: +1\r\n\r\na",
+            "malformed",
+        ),
         (b"GET / HTTP/1.1\r\nContent-Length:\r\n\r\na", "malformed"),
-        (b"GET / HTTP/1.1\r\nContent-Length: 00000000000000000001\r\n\r\na", "malformed"),
-        (b"GET / HTTP/1.1\r\ntransfer-encoding: gzip\r\n\r\n", "malformed"),
-        (b"GET / HTTP/1.1\r\ntransfer-encoding: chunked\r\ncontent-length: 0\r\n\r\n", "malformed"),
-        (b"GET / HTTP/1.1\r\nTransfer-Encoding: CHUNKED\r\n\r\n", "chunked"),
-        (b"GET / HTTP/1.1\r\nContent-Length: 8388609\r\n\r\n", "body too large"),
-        (b"GET / HTTP/1.1\r\nContent-Length: 9999999999999999999\r\n\r\n", "body too large"),
+        (
+            b"GET / HTTP/1.1\r\nContent-Length: 00000000000000000001\r\n\r\na",
+            "malformed",
+        ),
+        (
+            b"GET / HTTP/1.1\r\ntransfer-encoding: gzip\r\n\r\n",
+            "malformed",
+        ),
+        (
+            b"GET / HTTP/1.1\r\ntransfer-encoding: chunked\r\ncontent-length: 0\r\n\r\n",
+            "malformed",
+        ),
+        (
+            b"GET / HTTP/1.1\r\nTransfer-Encoding: CHUNKED\r\n\r\n",
+            "chunked",
+        ),
+        (
+            b"GET / HTTP/1.1\r\nContent-Length: 8388609\r\n\r\n",
+            "body too large",
+        ),
+        (
+            b"GET / HTTP/1.1\r\nContent-Length: 9999999999999999999\r\n\r\n",
+            "body too large",
+        ),
         (b"GET / HTTP/1.1\r\nContent-Length: 3\r\n\r\nab", "cut off"),
         (b"GET / HTT", "cut off"),
     ];
@@ -143,11 +167,23 @@ fn a_head_has_its_limits(rt: HostRuntime) -> Result<(), Fail> {
     let alloc = rt.alloc();
     assert_eq!(rt; first_answer(alloc, &head_with(alloc, 0, 64)?)?, "request");
     assert_eq!(rt; first_answer(alloc, &head_with(alloc, 70, 64)?)?, "request");
-    assert_eq!(rt; first_answer(alloc, &head_with(alloc, 0, 65)?)?, "head too large");
+    assert_eq!(rt;
+        first_answer(alloc, &head_with(alloc, 0, 65)?)?,
+        "head too large"
+    );
     assert_eq!(rt; first_answer(alloc, &head_of(alloc, 16_384)?)?, "request");
-    assert_eq!(rt; first_answer(alloc, &head_of(alloc, 16_385)?)?, "head too large");
-    assert_eq!(rt; first_answer(alloc, &repeated(alloc, b"\n", 16_383)?)?, "end");
-    assert_eq!(rt; first_answer(alloc, &repeated(alloc, b"\n", 16_384)?)?, "head too large");
+    assert_eq!(rt;
+        first_answer(alloc, &head_of(alloc, 16_385)?)?,
+        "head too large"
+    );
+    assert_eq!(rt;
+        first_answer(alloc, &repeated(alloc, b"\n", 16_383)?)?,
+        "end"
+    );
+    assert_eq!(rt;
+        first_answer(alloc, &repeated(alloc, b"\n", 16_384)?)?,
+        "head too large"
+    );
     Ok(())
 }
 
@@ -156,8 +192,14 @@ fn closing_is_asked_in_three_ways(rt: HostRuntime) -> Result<(), Fail> {
     let rows: [(&[u8], bool); 7] = [
         (b"GET / HTTP/1.1\r\n\r\n", false),
         (b"GET / HTTP/1.1\r\nConnection: keep-alive\r\n\r\n", false),
-        (b"GET / HTTP/1.1\r\nconnection: Keep-Alive ,\t CLOSE\t, x\r\n\r\n", true),
-        (b"GET / HTTP/1.1\r\nConnection: x\r\nConnection: close\r\n\r\n", true),
+        (
+            b"GET / HTTP/1.1\r\nconnection: Keep-Alive ,\t CLOSE\t, x\r\n\r\n",
+            true,
+        ),
+        (
+            b"GET / HTTP/1.1\r\nConnection: x\r\nConnection: close\r\n\r\n",
+            true,
+        ),
         (b"GET / HTTP/1.1\r\nConnection: closed\r\n\r\n", false),
         (b"GET / HTTP/1.0\r\n\r\n", true),
         (b"HEAD / HTTP/1.1\r\n\r\n", true),
@@ -207,7 +249,11 @@ fn a_failing_read_ends_the_reader(rt: HostRuntime) -> Result<(), Fail> {
             other => assert_eq!(rt; name_of(&other), "link fault", "at {failing}"),
         }
         assert_eq!(rt; link.faults(), 1);
-        assert_eq!(rt; name_of(&reader.next_request(&mut link)), "end", "at {failing}");
+        assert_eq!(rt;
+            name_of(&reader.next_request(&mut link)),
+            "end",
+            "at {failing}"
+        );
     }
     Ok(())
 }
@@ -228,14 +274,19 @@ fn reply_of(status: Status, text: Text, body: Body) -> Reply {
 fn replies_are_these_bytes(rt: HostRuntime) -> Result<(), Fail> {
     let alloc = rt.alloc();
     let mut link = link_of(alloc, b"", Vec::new(alloc))?;
-    let mut sums = reply_of(Status::Ok, Text::Plain, Body::kept(b"main 2\nmain;a 3\nmain;b 5\n"));
+    let mut sums = reply_of(
+        Status::Ok,
+        Text::Plain,
+        Body::kept(b"main 2\nmain;a 3\nmain;b 5\n"),
+    );
     sums.front = Some(1);
     assert!(rt; write_reply(&mut link, &sums).is_ok());
     let mut refused = reply_of(Status::MethodNotAllowed, Text::Json, Body::empty());
     refused.allow = Some(Allow::Post);
     refused.close = true;
     assert!(rt; write_reply(&mut link, &refused).is_ok());
-    let want = b"HTTP/1.1 200 OK\r\nContent-Type: text/plain\r\nContent-Length: 25\r\nX-Pyro-Front: 1\r\nX-Pyro-Now: 1700000000123\r\n\r\nmain 2\nmain;a 3\nmain;b 5\nHTTP/1.1 405 Method Not Allowed\r\nContent-Type: application/json\r\nContent-Length: 0\r\nAllow: POST\r\nX-Pyro-Now: 1700000000123\r\nConnection: close\r\n\r\n";
+    let want =
+        b"HTTP/1.1 200 OK\r\nContent-Type: text/plain\r\nContent-Length: 25\r\nX-Pyro-Front: 1\r\nX-Pyro-Now: 1700000000123\r\n\r\nmain 2\nmain;a 3\nmain;b 5\nHTTP/1.1 405 Method Not Allowed\r\nContent-Type: application/json\r\nContent-Length: 0\r\nAllow: POST\r\nX-Pyro-Now: 1700000000123\r\nConnection: close\r\n\r\n";
     assert!(rt; link.given() == want.as_slice());
     Ok(())
 }

@@ -1,7 +1,5 @@
-use Rattle.std.proofs.Common.{rules, arith, ◌≡◌, ◌-◌, ◌+◌, ◌*◌, get_or, take, ℕ, true, sym, subst}
+use Rattle.std.proofs.Common.{arith, ℕ}
 use Rattle.std.proofs.lemmas.Int.Digits.{digits_value_more}
-use Rattle.std.specs.Str.Parse.{digits_value}
-use Rattle.std.specs.Char.{digit_value}
 use Rattle.http_session.proofs.DigitLemmas.{digit_at}
 use Rattle.http_session.proofs.framing.decimal_value.Goals as goal
 

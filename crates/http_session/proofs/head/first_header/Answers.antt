@@ -1,7 +1,7 @@
-use Rattle.std.proofs.Common.{map, sym, ◌∙◌, ap, ◌∷◌, List, ℕ, ◌+◌}
+use Rattle.std.proofs.Common.{map, sym, ◌∙◌, ap, List, ◌+◌}
 use Rattle.std.proofs.lemmas.List.{drop_more, take_rest}
 use Rattle.std.proofs.lemmas.Bool.{both_ways}
-use Rattle.httparse.specs.Spans.{header_bytes, span_bytes}
+use Rattle.httparse.specs.Spans.{header_bytes}
 use Rattle.httparse.specs.declared.spans.HeaderSpan.{HeaderSpan}
 use Rattle.http_session.specs.Heads.{all_named}
 use Rattle.http_session.proofs.NamedLemmas.{named_here, named_later}

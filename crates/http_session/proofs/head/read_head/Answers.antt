@@ -1,10 +1,10 @@
-use Rattle.std.proofs.Common.{◌≡◌, ◌≤◌, ℕ, List, length, take, sym, subst, arith, append-nil, inl, inr, refl, ap, ◌∙◌, Err, []}
+use Rattle.std.proofs.Common.{◌≡◌, ◌≤◌, ℕ, List, sym, subst, arith, append-nil, inl, inr, ap, ◌∙◌, Err, []}
 use Rattle.std.proofs.lemmas.Bool.Decides.{nat_tests}
 use Rattle.httparse.specs.declared.Error.TheVariants.{TooManyHeaders}
 use Rattle.httparse.specs.Spans.{RequestExceeds}
 use Rattle.std.proofs.lemmas.List.{take_all}
-use Rattle.httparse.specs.Grammar.{HasNoRequest, ReadsRequest, RequestHead}
-use Rattle.http_session.specs.Heads.{IsHeadTooLarge, newlines, after_lines}
+use Rattle.httparse.specs.Grammar.{HasNoRequest, ReadsRequest}
+use Rattle.http_session.specs.Heads.{newlines, after_lines}
 use Rattle.http_session.proofs.NewlineLemmas.{exceeds_newlines}
 use Rattle.http_session.proofs.SpanLemmas.{head_at}
 use Rattle.http_session.proofs.head.read_head.Goals as goal

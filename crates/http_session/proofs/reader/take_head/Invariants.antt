@@ -1,9 +1,12 @@
-use Rattle.std.proofs.Common.{◌≡◌, ◌≤◌, ◌-◌, List, ℕ, ◌++◌, length}
+use Rattle.std.proofs.Common.{◌≤◌, ◌-◌, length}
+use Rattle.http_session.specs.Link.{Goes}
+use Rattle.http_session.specs.Pulled.{Pulled}
 use Rattle.http_session.proofs.reader.take_head.Given as goal
 
 abbrev pub invariant-loop-spans : goal.invariant-loop-spans
 invariant-loop-spans g l = record {
   count : g.L.Link.faults l.fn.link ≤ g.L.Link.faults l.link;
+  told : Goes (Pulled l.fn.buffer l.buffer) (g.L.Link.told l.fn.link) (g.L.Link.told l.link);
 }
 
 abbrev pub decreases-loop-spans : goal.decreases-loop-spans

@@ -1,7 +1,6 @@
-use Rattle.std.proofs.Common.{◌≡◌, ◌∙◌, sym, ap, arith, drop, take, length, ℕ, List, ◌+◌, ◌-◌, ◌≤◌, Some, slice_range, length-take, length-drop}
+use Rattle.std.proofs.Common.{◌≡◌, ◌∙◌, sym, ap, arith, drop, ℕ, List, ◌+◌, ◌-◌, ◌≤◌, Some, slice_range, length-take}
 use Rattle.std.proofs.lemmas.List.Quantifiers.{position-Some}
-use Rattle.httparse.specs.Spans.{span_bytes}
-use Rattle.std.specs.List.{position, position_or_len}
+use Rattle.std.specs.List.{position}
 use Rattle.http_session.specs.Asked.{is_question_mark}
 use Rattle.http_session.proofs.TargetLemmas.{part_drop, position_at}
 use Rattle.http_session.proofs.request.split_target.Goals as goal

@@ -1,4 +1,4 @@
-use Rattle.std.proofs.Common.{◌≡◌, ◌++◌, ◌∙◌, ap, [], List, ℕ, codes, decimal, length}
+use Rattle.std.proofs.Common.{◌++◌, ◌∙◌, ap, List, ℕ, codes, decimal, length}
 use Rattle.std.proofs.lemmas.List.{nil_from_length}
 use Rattle.http_session.specs.Reply.{head_of_reply, line}
 use Rattle.http_session.proofs.JoinLemmas.{put_after}

@@ -1,6 +1,6 @@
-use Rattle.std.proofs.Common.{◌≡◌, ◌∙◌, ap, sym, arith, rules, drop, take, length, append_assoc, List, ℕ, ◌++◌, Ok}
+use Rattle.std.proofs.Common.{◌∙◌, ap, sym, arith, take, append_assoc, List, ℕ, ◌++◌}
 use Rattle.std.proofs.lemmas.List.{take_rest, take-append-drop}
-use Rattle.http_session.specs.Link.{Told, Goes, Gave, WriteStep}
+use Rattle.http_session.specs.Link.{Gave}
 use Rattle.http_session.proofs.GoesLemmas.{goes_then, gave_then}
 use Rattle.http_session.proofs.write.write_whole.Goals as goal
 

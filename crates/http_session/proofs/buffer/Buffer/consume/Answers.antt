@@ -1,4 +1,4 @@
-use Rattle.std.proofs.Common.{◌≡◌, ◌+◌, ◌-◌, ◌≤◌, ◌∙◌, ap, arith, drop, length, length-take, take, List, ℕ}
+use Rattle.std.proofs.Common.{◌-◌, ◌∙◌, ap, arith, drop, length, length-take, take, List, ℕ}
 use Rattle.http_session.proofs.BufferLemmas.{moved_front}
 use Rattle.http_session.proofs.buffer.Buffer.consume.Goals as goal
 

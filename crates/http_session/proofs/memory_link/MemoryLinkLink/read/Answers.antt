@@ -1,6 +1,6 @@
-use Rattle.std.proofs.Common.{◌≡◌, ◌+◌, sym, ◌∙◌, ap, refl, arith, Some, drop, slice_range, List, ℕ, length, ◌≤◌, ◌<◌}
+use Rattle.std.proofs.Common.{◌≡◌, ◌+◌, sym, ◌∙◌, ap, refl, arith, drop, slice_range, List, ℕ, length, ◌≤◌, ◌<◌}
 use Rattle.std.proofs.lemmas.Grind.{common_steps}
-use Rattle.http_session.specs.Link.{Told, MemoryView}
+use Rattle.http_session.specs.Link.{MemoryView}
 use Rattle.http_session.proofs.LinkLemmas.{memory_read}
 use Rattle.http_session.proofs.memory_link.MemoryLinkLink.read.Goals as goal
 

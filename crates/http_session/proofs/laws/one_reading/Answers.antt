@@ -1,0 +1,11 @@
+use Rattle.http_session.proofs.TakesLemmas.{whole_stays, whole_is_one, requests_are_one}
+use Rattle.http_session.proofs.laws.one_reading.Goals as goal
+
+pub returns-clause-stays : goal.returns-clause-stays
+returns-clause-stays c = whole_stays
+
+pub returns-clause-one : goal.returns-clause-one
+returns-clause-one c = whole_is_one
+
+pub returns-clause-requests : goal.returns-clause-requests
+returns-clause-requests c = requests_are_one

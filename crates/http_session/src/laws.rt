@@ -1,0 +1,10 @@
+//! What holds of every reading of a connection's bytes.
+ghost use Rattle.http_session.specs.TakesLaws.{WholeStays, WholeIsOne, RequestsAreOne};
+
+/// The requests of a connection's bytes are one list, and stay so however much more comes.
+pub fn one_reading()
+    ensures stays { WholeStays }
+    ensures one { WholeIsOne }
+    ensures requests { RequestsAreOne }
+{
+}

@@ -1,1 +1,4 @@
 pub mod FaultBodies
+pub mod Forms
+pub mod Meanings
+pub mod Replies

@@ -4,7 +4,7 @@ ghost use Rattle.profile_model.specs.LabelSets.{IsLabelValue};
 
 use crate::parameters::Parameter;
 use crate::refusal::Refusal;
-use folded_reader::read_folded;
+use folded_reader::{FoldedFault, read_folded};
 use http_session::Request;
 use profile_model::{
     LabelSet, MAX_VALUE_BYTES, Name, Profile, ProfileType, Profiles, Push, StackSums, Tenant,
@@ -23,6 +23,7 @@ pub(crate) fn read_ingest(
     };
     let values = match read_folded(alloc, request.body()) {
         Ok(values) => values,
+        Err(FoldedFault::Memory) => return Err(Refusal::Memory),
         Err(fault) => return Err(Refusal::Folded(fault)),
     };
     match push_of(alloc, tenant, service, request.moment(), values) {

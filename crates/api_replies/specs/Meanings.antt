@@ -1,0 +1,76 @@
+-- What a request means: a write, a query, or the first refusal in the order of refusals.
+use Rattle.std.specs.Prelude.{◌≡◌, ◌≢◌, ◌-◌, ◌⊎◌, ℕ, Bool, true, false, List, [], ◌∷◌, IsSome, codes, Option, Some, None, Ok, Err}
+use Rattle.http_session.specs.Asked.{Asked}
+use Rattle.folded_reader.specs.Folded.{IsReadFolded}
+use Rattle.folded_reader.specs.declared.fault.FoldedFault.TheVariants as folded
+use Rattle.profile_model.specs.Sums.{Sample}
+use Rattle.profile_model.specs.TenantPlaces.{wrong_place}
+use Rattle.profile_model.specs.ReadKinds.{parts_in}
+use Rattle.profile_model.specs.declared.profile.Profile.{Profile}
+use Rattle.profile_model.specs.declared.push.Push.{Push}
+use Rattle.api_replies.specs.Forms.{route_of, tenant_of, has_unbuilt_form, parameters_of, only_service, IsQuery, IsNoQuery}
+use Rattle.api_replies.specs.declared.ask.Ask.{Ask}
+use Rattle.api_replies.specs.declared.meaning.Meaning.{Meaning}
+use Rattle.api_replies.specs.declared.meaning.Meaning.TheVariants.{Write, Render as Query}
+use Rattle.api_replies.specs.declared.meaning.Route.{Route}
+use Rattle.api_replies.specs.declared.meaning.Route.TheVariants.{Ingest, Render}
+use Rattle.api_replies.specs.declared.refusal.Refusal.{Refusal}
+use Rattle.api_replies.specs.declared.refusal.Refusal.TheVariants.{Unbuilt, NoTenant, BadTenant, Folded, Memory}
+
+-- the request has a route that is built, and names a tenant
+record IsRouted (single : Bool) (asked : Asked) (tenant : List ℕ) : Type 0 where
+  pub route : IsSome (route_of asked)
+  pub named : tenant_of single asked ≡ Some tenant
+  pub rightly : wrong_place tenant ≡ None
+
+-- the request comes as far as its parameters: nothing before them refuses it
+record Reaches (single : Bool) (asked : Asked) (route : Route) (tenant : List ℕ) : Type 0 where
+  pub route_is : route_of asked ≡ Some route
+  pub named : tenant_of single asked ≡ Some tenant
+  pub rightly : wrong_place tenant ≡ None
+  pub built : has_unbuilt_form asked ≡ false
+
+-- the profile that folded stacks make
+record IsFoldedProfile (service : List ℕ) (time : ℕ) (sums : List Sample) (profile : Profile) : Type 0 where
+  pub labels : profile.labels ≡ (codes "service_name", service) ∷ []
+  pub kind : parts_in profile.kind ≡ codes "process_cpu" ∷ codes "samples" ∷ codes "count" ∷ codes "cpu" ∷ codes "nanoseconds" ∷ []
+  pub time_is : profile.time_ms ≡ time
+  pub values : profile.values ≡ sums
+
+-- the request is a write of this push
+record IsWrite (single : Bool) (asked : Asked) (push : Push) : Type 0 where
+  pub service : List ℕ
+  pub sums : List Sample
+  pub profile : Profile
+  pub reaches : Reaches single asked Ingest push.tenant
+  pub serves : only_service (parameters_of asked.query) ≡ Some service
+  pub read : IsReadFolded asked.body (Ok sums)
+  pub one : push.profiles ≡ profile ∷ []
+  pub made : IsFoldedProfile service asked.moment sums profile
+
+-- the request is this query, over the last hour
+record IsAsk (single : Bool) (asked : Asked) (ask : Ask) : Type 0 where
+  pub reaches : Reaches single asked Render ask.tenant
+  pub query : IsQuery (parameters_of asked.query) ask.kind
+  pub from : ask.from_ms ≡ asked.moment - 3600000
+  pub until : ask.until_ms ≡ asked.moment
+
+-- the request is refused, and this is the first refusal; want of memory may come in place of any
+abbrev pub IsRefused : Bool → Asked → Refusal → Type 0
+IsRefused single asked Unbuilt =
+    (route_of asked ≡ None)
+    ⊎ ((tenant : List ℕ) × IsRouted single asked tenant × (has_unbuilt_form asked ≡ true))
+    ⊎ ((tenant : List ℕ) × Reaches single asked Ingest tenant × (only_service (parameters_of asked.query) ≡ None))
+    ⊎ ((tenant : List ℕ) × Reaches single asked Render tenant × IsNoQuery (parameters_of asked.query))
+IsRefused single asked NoTenant = IsSome (route_of asked) × (tenant_of single asked ≡ None)
+IsRefused single asked (BadTenant at) =
+    IsSome (route_of asked) × ((tenant : List ℕ) × (tenant_of single asked ≡ Some tenant) × (wrong_place tenant ≡ Some at))
+IsRefused single asked (Folded fault) =
+    (tenant : List ℕ) × (service : List ℕ) × Reaches single asked Ingest tenant
+    × (only_service (parameters_of asked.query) ≡ Some service) × (fault ≢ folded.Memory) × IsReadFolded asked.body (Err fault)
+IsRefused single asked Memory = Unit {0}
+
+-- what the request means, where it isn't refused
+abbrev pub Means : Bool → Asked → Meaning → Type 0
+Means single asked (Write push) = IsWrite single asked push
+Means single asked (Query ask) = IsAsk single asked ask

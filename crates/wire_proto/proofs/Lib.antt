@@ -1,0 +1,9 @@
+pub mod VarintSteps
+pub mod Varints
+pub mod FieldReads
+pub mod FieldAgain
+pub mod Messages
+pub mod ReadVarint
+pub mod VarintWriting
+pub mod Readings
+pub mod Written

@@ -14,15 +14,16 @@ use std::alloc::Global;
 /// How gzip begins.
 const GZIP: [u8; 2] = [0x1F, 0x8B];
 
-/// The sums of a body whose lines are a stack, a space and a count.
-/// A stack's frames stand from the root, joined by `;`, as flame graph tools write them.
+/// The sums of a body whose lines are a stack, a space and a count: the folded stacks of Brendan Gregg's flame graph tools.
+/// A stack's frames stand from the root, joined by `;`. A line without bytes says nothing, equal stacks are summed,
+/// and a count of 0 is dropped. The error is the body's own fault, or else that of the first line that has one.
 pub fn read_folded(alloc: Global, bytes: &[u8]) -> Result<StackSums, FoldedFault>
     ensures read { IsReadFolded bytes.now result }
 {
     read(alloc, bytes, LineForm::Counted)
 }
 
-/// The sums of a body whose lines are stacks, each of which counts once.
+/// The sums of a body whose lines are stacks, each of which counts once. All else is as in `read_folded`.
 pub fn read_lines(alloc: Global, bytes: &[u8]) -> Result<StackSums, FoldedFault>
     ensures read { IsReadLines bytes.now result }
 {

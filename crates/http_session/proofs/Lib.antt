@@ -4,6 +4,7 @@ pub mod GoesLemmas
 pub mod JoinLemmas
 pub mod LinkLemmas
 pub mod NewlineLemmas
+pub mod PartsLemmas
 pub mod ReaderLemmas
 pub mod RequestLemmas
 pub mod SpanLemmas

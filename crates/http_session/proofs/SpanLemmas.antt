@@ -1,5 +1,8 @@
 -- What spans cover stays the same in the text of the head alone.
-use Rattle.std.proofs.Common.{◌≡◌, ℕ, ◌+◌, ◌-◌, ◌≤◌, List, [], ◌∷◌, length, take, drop, map, refl, sym, subst, ap, ap₂, ◌∙◌, arith, length-take, slice_range}
+use Rattle.std.proofs.Common.{◌≡◌, ℕ, ◌+◌, ◌-◌, ◌≤◌, List, [], ◌∷◌, ◌++◌, length, take, drop, map, refl, sym, subst, ap, ap₂, ◌∙◌, arith, append_assoc, length-append, length-take, slice_range, Option, Some, None, IfSome}
+use Rattle.std.specs.Option.{option_map}
+use Rattle.std.proofs.Math.Seq.{take-append_seam}
+use Rattle.http_session.specs.InHead.{Grows}
 use Rattle.std.specs.List.{All}
 use Rattle.std.proofs.lemmas.List.{take-take, drop-take, length-take-le, length-map}
 use Rattle.std.proofs.lemmas.List.Elements.{All-head, All-tail}
@@ -49,3 +52,26 @@ head_at bytes headers spans head short room within at =
         headers_are = headers_in_front spans.len bytes (take spans.headers headers) within.section.headers_fit ∙ at.fields;
       };
     }
+
+-- a span covers the same where more bytes stand behind
+pub span_grows : (old new : List ℕ) (span : Span) → Grows old new → IsWithin (length old) span → span_bytes new span ≡ span_bytes old span
+span_grows old new span (more, is) within =
+    ap (λ (xs : List ℕ). span_bytes xs span) is
+    ∙ sym (span_in_front (length old) (old ++ more) span within)
+    ∙ ap (λ (xs : List ℕ). span_bytes xs span) (take-append_seam old more)
+
+pub within_grows : (old new : List ℕ) (span : Span) → Grows old new → IsWithin (length old) span → IsWithin (length new) span
+within_grows old new span (more, is) (order, fits) = (order, omega (arith, fits, ap length is, length-append old more))
+
+pub grows_then : (a b c : List ℕ) → Grows a b → Grows b c → Grows a c
+grows_then a b c one two = (one.0 ++ two.0, two.1 ∙ ap (λ (xs : List ℕ). xs ++ two.0) one.1 ∙ append_assoc a one.0 two.0)
+
+-- the same of a span that may be there
+pub maybe_grows : (old new : List ℕ) (span : Option Span) → Grows old new → IfSome span (IsWithin (length old)) →
+    option_map (span_bytes new) span ≡ option_map (span_bytes old) span
+maybe_grows old new None grows within = refl
+maybe_grows old new (Some span) grows within = ap Some (span_grows old new span grows within)
+
+pub maybe_within : (old new : List ℕ) (span : Option Span) → Grows old new → IfSome span (IsWithin (length old)) → IfSome span (IsWithin (length new))
+maybe_within old new None grows within = tt
+maybe_within old new (Some span) grows within = within_grows old new span grows within

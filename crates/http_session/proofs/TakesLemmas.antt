@@ -1,14 +1,14 @@
 -- A connection's bytes have one list of whole requests, however much of them has come.
-use Rattle.std.proofs.Common.{◌≡◌, ℕ, ◌+◌, ◌-◌, ◌<◌, ◌≤◌, ◌⊎◌, List, [], ◌∷◌, ◌++◌, length, take, refl, sym, subst, ap, ap₂, ◌∙◌, append_assoc, append-nil, length-append, arith, ◌≢◌, Result, Ok, Err, inl, inr, ⊎_elim, true, false}
+use Rattle.std.proofs.Common.{◌≡◌, ℕ, ◌+◌, ◌-◌, ◌≤◌, List, [], ◌∷◌, ◌++◌, length, take, refl, sym, subst, ap, ap₂, ◌∙◌, append_assoc, append-nil, length-append, arith, ◌≢◌, Result, Ok, Err, inl, inr, ⊎_elim, true, false}
 use Rattle.std.proofs.lemmas.List.{take_at, append_cancel_left}
 use Rattle.std.proofs.Math.Seq.{take-append-add}
 use Rattle.std.proofs.lemmas.Bool.{true≢false}
 use Rattle.httparse.specs.Grammar.{RequestHead, print_request, ReadsRequest, HasNoRequest, NeverHasRequest}
 use Rattle.httparse.proofs.GrammarLemmas.{request_unique}
-use Rattle.http_session.specs.Heads.{BeginsWithHead, IsHeadTooLarge, IsUnfinished, headers_of}
+use Rattle.http_session.specs.Heads.{BeginsWithHead, IsHeadTooLarge, headers_of}
 use Rattle.http_session.specs.Framing.{body_length_of}
 use Rattle.http_session.specs.Asked.{Asked, asked_of}
-use Rattle.http_session.specs.Takes.{IsWhole, HasBadLength, IsBetween, IsInside, IsBad, Ending, done, closing, bad, EndsAs, TakesFrom}
+use Rattle.http_session.specs.Takes.{IsWhole, HasBadLength, IsInside, IsBad, Ending, done, closing, bad, EndsAs, TakesFrom}
 use Rattle.http_session.specs.TakesLaws.{WholeStays, WholeIsOne, RequestsAreOne}
 use Rattle.http_session.specs.declared.bad_request.BadRequest.{BadRequest}
 use Rattle.http_session.specs.declared.bad_request.BadRequest.TheVariants.{Malformed, HeadTooLarge, BodyTooLarge, Chunked, CutOff}
@@ -51,11 +51,15 @@ short_head : (bytes : List ℕ) (head : RequestHead) (rest : List ℕ) → Begin
     (left : List ℕ) × ReadsRequest (take 16384 bytes) head left
 short_head bytes head rest begins long =
     let text = print_request head in
-    let more : ℕ = 16384 - length text in
-    (take more rest, (begins.reads.0,
-      ap (λ (xs : List ℕ). take 16384 xs) begins.reads.1
-      ∙ ap (λ n. take n (text ++ rest)) (let all : 16384 ≡ length text + more = omega (arith, begins.short) in all)
-      ∙ take-append-add text rest more))
+    let more : ℕ = 16384 - length text in (
+      take more rest,
+      (
+        begins.reads.0,
+        ap (λ (xs : List ℕ). take 16384 xs) begins.reads.1
+            ∙ ap (λ n. take n (text ++ rest)) (let all : 16384 ≡ length text + more = omega (arith, begins.short) in all)
+            ∙ take-append-add text rest more,
+      ),
+    )
 
 no_head : (bytes : List ℕ) (head : RequestHead) (rest : List ℕ) → BeginsWithHead bytes head rest → IsHeadTooLarge bytes → ⊥
 no_head bytes head rest begins large =
@@ -109,12 +113,12 @@ requests_are_one number moment bytes (q ∷ requests) (r ∷ others) ending last
     let P : List ℕ → Type 0 = λ xs. TakesFrom (number + 1) moment xs others last in
     ap₂ (λ (x : Asked) (xs : List Asked). x ∷ xs) one.0
     (⊎_elim
-      (λ closed. ⊎_elim
-        (λ shut. closed.1 ∙ sym shut.1)
-        (λ open_. absurd (close_is_one q r one.0 closed.0 open_.0))
-        again)
-      (λ open_. ⊎_elim
-        (λ shut. absurd (close_is_one r q (sym one.0) shut.0 open_.0))
-        (λ on. requests_are_one (number + 1) moment rest requests others ending last open_.1 (subst P (sym one.1) on.1))
-        again)
-      more)
+    (λ closed. ⊎_elim
+    (λ shut. closed.1 ∙ sym shut.1)
+    (λ open_. absurd (close_is_one q r one.0 closed.0 open_.0))
+    again)
+    (λ open_. ⊎_elim
+    (λ shut. absurd (close_is_one r q (sym one.0) shut.0 open_.0))
+    (λ on. requests_are_one (number + 1) moment rest requests others ending last open_.1 (subst P (sym one.1) on.1))
+    again)
+    more)

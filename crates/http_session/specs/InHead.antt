@@ -1,5 +1,5 @@
 -- The spans of a request lie in its head.
-use Rattle.std.specs.Prelude.{ℕ, List, length, Option, IfSome}
+use Rattle.std.specs.Prelude.{◌≡◌, ℕ, List, ◌++◌, length, Option, IfSome}
 use Rattle.httparse.specs.declared.spans.Span.{Span}
 use Rattle.httparse.specs.Spans.{IsWithin}
 
@@ -9,3 +9,7 @@ pub record IsInHead (head : List ℕ) (path query : Span) (tenant asked encoding
   pub tenant_within : IfSome tenant (IsWithin (length head))
   pub asked_within : IfSome asked (IsWithin (length head))
   pub encoding_within : IfSome encoding (IsWithin (length head))
+
+-- the bytes are those, with more behind them
+abbrev pub Grows : List ℕ → List ℕ → Type 0
+Grows old new = (more : List ℕ) × (new ≡ old ++ more)

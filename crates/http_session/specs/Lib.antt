@@ -8,6 +8,7 @@ pub mod InHead
 pub mod BodyBytes
 pub mod Reply
 pub mod Written
+pub mod Parts
 pub mod Takes
 pub mod TakesLaws
 pub mod Waiting

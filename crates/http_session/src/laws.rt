@@ -6,5 +6,4 @@ pub fn one_reading()
     ensures stays { WholeStays }
     ensures one { WholeIsOne }
     ensures requests { RequestsAreOne }
-{
-}
+{}

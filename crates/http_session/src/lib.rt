@@ -27,6 +27,6 @@ pub use memory_link::MemoryLink;
 pub use method::Method;
 pub use reader::{NextRequest, Reader};
 pub use reply::{Allow, Body, KEPT_LIMIT, Reply, Status, Text};
-pub use request::Request;
+pub use request::{Request, RequestParts};
 pub use stdio_link::StdioLink;
 pub use write::{LinkFault, write_reply};

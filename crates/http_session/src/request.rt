@@ -1,5 +1,7 @@
 //! A whole request: one copy of its head's bytes with spans into it, and its body.
-ghost use Rattle.std.specs.Prelude.{◌≡◌, [], IfOk, IfSome, All, length, option_map};
+ghost use Rattle.std.specs.Prelude.{◌≡◌, [], IfOk, OnOk, IfSome, All, length, option_map};
+ghost use Rattle.http_session.specs.Parts.{asked_with};
+ghost use Rattle.http_session.specs.InHead.{Grows};
 ghost use Rattle.httparse.specs.Grammar.{RequestHead};
 ghost use Rattle.httparse.specs.Spans.{IsWithin, IsHeaderWithin, span_bytes};
 ghost use Rattle.http_session.specs.HeadRead.{Covers};
@@ -29,6 +31,19 @@ pub struct Request {
     body: Vec<u8>,
     close: bool,
     moment: u64,
+}
+
+/// The parts of a request that doesn't come from a connection's bytes.
+#[derive(Clone, Copy)]
+pub struct RequestParts<'a> {
+    pub method: Method,
+    /// The path, and behind a question mark the query.
+    pub target: &'a [u8],
+    pub tenant: Option<&'a [u8]>,
+    pub asked: Option<&'a [u8]>,
+    pub encoding: Option<&'a [u8]>,
+    pub close: bool,
+    pub moment: u64,
 }
 
 impl Model for Request {
@@ -86,6 +101,34 @@ impl Request {
             body: Vec::new(alloc),
             close,
             moment: 0,
+        })
+    }
+
+    /// A request of these parts and this body.
+    pub fn from_parts(
+        alloc: Global,
+        parts: &RequestParts<'_>,
+        body: Vec<u8>,
+    ) -> Result<Request, AllocError>
+        ensures { IfOk result (λ request. request ≡ asked_with parts.now body.items) }
+    {
+        let mut head = Vec::from_slice(alloc, parts.target)?;
+        let end = head.len();
+        let (path, query) = split_target(&head, Span { start: 0, end });
+        let tenant = keep(&mut head, parts.tenant)?;
+        let asked = keep(&mut head, parts.asked)?;
+        let encoding = keep(&mut head, parts.encoding)?;
+        Ok(Request {
+            head,
+            method: parts.method,
+            path,
+            query,
+            tenant,
+            asked,
+            encoding,
+            body,
+            close: parts.close,
+            moment: parts.moment,
         })
     }
 
@@ -176,6 +219,22 @@ fn value_in(head: &[u8], span: Option<Span>) -> Option<&[u8]>
         Some(span) => Some(span.of(head)),
         None => None,
     }
+}
+
+// Keeps a value at the end of a head, and says where.
+fn keep(head: &mut Vec<u8>, value: Option<&[u8]>) -> Result<Option<Span>, AllocError>
+    ensures grows { OnOk result (Grows head.old.items head.new.items) }
+    ensures within { IfOk result (λ span. IfSome span (IsWithin (length head.new.items))) }
+    ensures kept { IfOk result (λ span. option_map (span_bytes head.new.items) span
+        ≡ option_map (λ bytes. bytes.now) value.entry) }
+{
+    let Some(bytes) = value else {
+        return Ok(None);
+    };
+    let start = head.len();
+    head.extend_from_slice(bytes)?;
+    let end = head.len();
+    Ok(Some(Span { start, end }))
 }
 
 // Where the first question mark is.

@@ -1,7 +1,7 @@
 //! What no clause says: whole exchanges, byte by byte.
 use crate::{
     Allow, BadRequest, Body, Link, LinkFault, MemoryLink, Method, NextRequest, Reader, Reply,
-    Request, Status, Text, write_reply,
+    Request, RequestParts, Status, Text, write_reply,
 };
 use std::alloc::{AllocError, Global};
 use std::process::Abort;
@@ -76,6 +76,30 @@ fn two_requests_are_read_however_the_input_is_cut(rt: HostRuntime) -> Result<(),
             "cut at {cut}"
         );
     }
+    Ok(())
+}
+
+#[test]
+fn a_request_is_made_of_its_parts(rt: HostRuntime) -> Result<(), Fail> {
+    let parts = RequestParts {
+        method: Method::Post,
+        target: b"/ingest?name=app",
+        tenant: Some(b"t1"),
+        asked: None,
+        encoding: Some(b""),
+        close: true,
+        moment: 5,
+    };
+    let body = Vec::from_slice(rt.alloc(), b"a 1\n")?;
+    let request = Request::from_parts(rt.alloc(), &parts, body)?;
+    assert!(rt; request.method() == Method::Post);
+    assert_eq!(rt; request.path(), b"/ingest".as_slice());
+    assert_eq!(rt; request.query(), b"name=app".as_slice());
+    assert!(rt; request.tenant() == Some(b"t1".as_slice()));
+    assert!(rt; request.asked().is_none());
+    assert!(rt; request.encoding() == Some(b"".as_slice()));
+    assert!(rt; request.close() && request.moment() == 5);
+    assert_eq!(rt; request.into_body().as_slice(), b"a 1\n".as_slice());
     Ok(())
 }
 

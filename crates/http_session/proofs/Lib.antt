@@ -1,5 +1,6 @@
 pub mod BufferLemmas
 pub mod DigitLemmas
+pub mod EndingLemmas
 pub mod GoesLemmas
 pub mod JoinLemmas
 pub mod LinkLemmas

@@ -51,7 +51,7 @@ lf_no_token : is_token_byte line_feed ≡ false
 unfolding is_token_byte
 lf_no_token = refl
 
-token_no_line : (b : ℕ) → is_token_byte b ≡ true → is_line_byte b ≡ false
+pub token_no_line : (b : ℕ) → is_token_byte b ≡ true → is_line_byte b ≡ false
 token_no_line b token =
     let P : ℕ → Type 0 = λ x. is_token_byte x ≡ true in
     false_from_ne_true (is_line_byte b) (λ line. ⊎_elim
@@ -59,7 +59,7 @@ token_no_line b token =
     (λ e. true≢false (sym (subst P (eqb-true b line_feed e) token) ∙ lf_no_token))
     (or_cases (b == carriage_return) (b == line_feed) line))
 
-after_blank : (ends : List LineEnd) (b : ℕ) (tail : List ℕ) → is_line_byte b ≡ false →
+pub after_blank : (ends : List LineEnd) (b : ℕ) (tail : List ℕ) → is_line_byte b ≡ false →
     after_lines (print_blank ends ++ b ∷ tail) ≡ b ∷ tail
 after_blank [] b tail other = rw other refl
 after_blank (crlf ∷ ends) b tail other = after_blank ends b tail other
@@ -94,7 +94,7 @@ head_newlines h b method is other =
     rw (text, cut) here
 
 -- a first byte, and those after it
-first_of : (word : List ℕ) → 0 < length word → (b : ℕ) × (tail : List ℕ) × (word ≡ b ∷ tail)
+pub first_of : (word : List ℕ) → 0 < length word → (b : ℕ) × (tail : List ℕ) × (word ≡ b ∷ tail)
 first_of [] long = absurd (omega arith)
 first_of (b ∷ tail) long = (b, tail, refl)
 

@@ -5,7 +5,7 @@ use Rattle.std.proofs.lemmas.List.{take-append-drop, nil_from_length, drop_all, 
 use Rattle.http_session.specs.Link.{Told}
 use Rattle.http_session.specs.Pulled.{Pulled, FillStep}
 use Rattle.http_session.specs.Heads.{IsUnfinished}
-use Rattle.http_session.specs.Answers.{StopsAt, HeadStep}
+use Rattle.http_session.specs.Steps.{StopsAt, HeadStep}
 use Rattle.http_session.specs.declared.reader.Stop.{Stop}
 use Rattle.http_session.proofs.GoesLemmas.{took_then}
 

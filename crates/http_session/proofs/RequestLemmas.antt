@@ -11,7 +11,8 @@ use Rattle.http_session.specs.Heads.{BeginsWithHead, headers_of}
 use Rattle.http_session.specs.Framing.{body_length_of}
 use Rattle.http_session.specs.Asked.{Asked, asked_of}
 use Rattle.http_session.specs.Takes.{IsBad}
-use Rattle.http_session.specs.Answers.{StopsAt, IsBadAt, BodyStep, RequestStep, IsBodyOf}
+use Rattle.http_session.specs.Answers.{IsBadAt}
+use Rattle.http_session.specs.Steps.{StopsAt, BodyStep, RequestStep, IsBodyOf}
 use Rattle.http_session.specs.declared.bad_request.BadRequest.{BadRequest}
 use Rattle.http_session.specs.declared.bad_request.BadRequest.TheVariants as why
 use Rattle.http_session.specs.declared.reader.Stop.{Stop}

@@ -9,7 +9,7 @@ use Rattle.http_session.specs.Heads.{BeginsWithHead, IsHeadTooLarge, headers_of}
 use Rattle.http_session.specs.Framing.{body_length_of}
 use Rattle.http_session.specs.Asked.{Asked, asked_of}
 use Rattle.http_session.specs.Takes.{IsWhole, HasBadLength, IsInside, IsBad, Ending, done, closing, bad, EndsAs, TakesFrom}
-use Rattle.http_session.specs.TakesLaws.{WholeStays, WholeIsOne, RequestsAreOne}
+use Rattle.http_session.specs.TakesLaws.{WholeStays, WholeIsOne, RequestsAreOne, AnsweredOfAll}
 use Rattle.http_session.specs.declared.bad_request.BadRequest.{BadRequest}
 use Rattle.http_session.specs.declared.bad_request.BadRequest.TheVariants.{Malformed, HeadTooLarge, BodyTooLarge, Chunked, CutOff}
 use Rattle.http_session.proofs.RequestLemmas.{head_stays}
@@ -20,7 +20,7 @@ whole_stays number moment bytes more rest asked (head, body, begins, sized, is) 
     (head, body, subst P (append_assoc body rest more) (head_stays bytes more head (body ++ rest) begins), sized, is)
 
 -- the bytes begin with at most one head
-head_is_one : (bytes : List ℕ) (head other : RequestHead) (rest left : List ℕ) → BeginsWithHead bytes head rest → BeginsWithHead bytes other left →
+pub head_is_one : (bytes : List ℕ) (head other : RequestHead) (rest left : List ℕ) → BeginsWithHead bytes head rest → BeginsWithHead bytes other left →
     (head ≡ other) × (rest ≡ left)
 head_is_one bytes head other rest left a b = request_unique bytes head other rest left a.reads b.reads
 
@@ -31,10 +31,10 @@ same_fronts a b x y long is =
     (front, append_cancel_left b x y (ap (λ (xs : List ℕ). xs ++ x) (sym front) ∙ is))
 
 -- an answer is one Ok, and no Err
-one_ok : (r : Result ℕ BadRequest) (m n : ℕ) → r ≡ Ok m → r ≡ Ok n → m ≡ n
+pub one_ok : (r : Result ℕ BadRequest) (m n : ℕ) → r ≡ Ok m → r ≡ Ok n → m ≡ n
 one_ok r m n a b = cc
 
-ok_is_no_err : (r : Result ℕ BadRequest) (m : ℕ) (e : BadRequest) → r ≡ Ok m → r ≡ Err e → ⊥
+pub ok_is_no_err : (r : Result ℕ BadRequest) (m : ℕ) (e : BadRequest) → r ≡ Ok m → r ≡ Err e → ⊥
 ok_is_no_err r m e a b = cc
 
 pub whole_is_one : WholeIsOne
@@ -61,7 +61,7 @@ short_head bytes head rest begins long =
       ),
     )
 
-no_head : (bytes : List ℕ) (head : RequestHead) (rest : List ℕ) → BeginsWithHead bytes head rest → IsHeadTooLarge bytes → ⊥
+pub no_head : (bytes : List ℕ) (head : RequestHead) (rest : List ℕ) → BeginsWithHead bytes head rest → IsHeadTooLarge bytes → ⊥
 no_head bytes head rest begins large =
     ⊎_elim (λ (none : (16384 ≤ length bytes) × HasNoRequest (take 16384 bytes)). let short = short_head bytes head rest begins none.0 in none.1 head short.0 short.1)
     (λ many. omega (arith, many.1 head rest begins.reads, begins.few))
@@ -81,7 +81,7 @@ not_inside number moment bytes rest asked (head, body, begins, sized, is) (inr (
     let same = one_ok (body_length_of (headers_of head)) (length body) size sized (ap (λ h. body_length_of (headers_of h)) one.0 ∙ sized') in
     omega (arith, same, short, ap length one.1, length-append body rest)
 
-never : (bytes : List ℕ) (head : RequestHead) (rest : List ℕ) → ReadsRequest bytes head rest → NeverHasRequest bytes → ⊥
+pub never : (bytes : List ℕ) (head : RequestHead) (rest : List ℕ) → ReadsRequest bytes head rest → NeverHasRequest bytes → ⊥
 never bytes head rest reads none = none [] head rest (let P : List ℕ → Type 0 = λ xs. ReadsRequest xs head rest in subst P (sym (append-nil bytes)) reads)
 
 -- bytes that begin with a whole request aren't bad
@@ -94,14 +94,14 @@ not_bad number moment bytes rest asked Chunked whole wrong = no_bad_length numbe
 not_bad number moment bytes rest asked CutOff whole inside = not_inside number moment bytes rest asked whole inside
 
 -- nor do they end there
-no_end : (number moment : ℕ) (bytes rest : List ℕ) (asked : Asked) (ending : Ending) → IsWhole number moment bytes asked rest →
+pub no_end : (number moment : ℕ) (bytes rest : List ℕ) (asked : Asked) (ending : Ending) → IsWhole number moment bytes asked rest →
     (ending ≢ closing) × EndsAs bytes ending → ⊥
 no_end number moment bytes rest asked done whole ends = ends.1.1.none whole.0 (whole.1 ++ rest) whole.2.reads
 no_end number moment bytes rest asked closing whole ends = ends.0 refl
 no_end number moment bytes rest asked (bad e) whole ends = not_bad number moment bytes rest asked e whole ends.1
 
 -- a request that asks for closing isn't one that doesn't
-close_is_one : (a b : Asked) → a ≡ b → a.close ≡ true → b.close ≡ false → ⊥
+pub close_is_one : (a b : Asked) → a ≡ b → a.close ≡ true → b.close ≡ false → ⊥
 close_is_one a b same closes stays = true≢false (sym closes ∙ ap (λ (q : Asked). q.close) same ∙ stays)
 
 pub requests_are_one : RequestsAreOne
@@ -122,3 +122,10 @@ requests_are_one number moment bytes (q ∷ requests) (r ∷ others) ending last
     (λ on. requests_are_one (number + 1) moment rest requests others ending last open_.1 (subst P (sym one.1) on.1))
     again)
     more)
+
+pub answered_of_all : AnsweredOfAll
+answered_of_all old new before now asked (piece, took, whole) =
+    let all : (old.held ++ piece) ++ now.to_come ≡ old.held ++ before.to_come =
+    append_assoc old.held piece now.to_come ∙ ap (λ (xs : List ℕ). old.held ++ xs) (sym took.to_come) in
+    let P : List ℕ → Type 0 = λ xs. IsWhole new.given before.moment xs asked (new.held ++ now.to_come) in
+    subst P all (whole_stays new.given before.moment (old.held ++ piece) now.to_come new.held asked whole)

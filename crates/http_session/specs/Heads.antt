@@ -37,7 +37,7 @@ IsHeadTooLarge bytes =
 -- the head is still being read: no prefix is one, more bytes can make one, and no limit is met
 pub record IsUnfinished (bytes : List ℕ) : Type 0 where
   pub none : HasNoRequest bytes
-  pub open_ : MayBecomeRequest bytes
+  pub may : MayBecomeRequest bytes
   pub short : length bytes < 16384
   pub few : newlines (after_lines bytes) < 66
 

@@ -14,4 +14,6 @@ pub mod TakesLaws
 pub mod Waiting
 pub mod ReaderState
 pub mod Answers
+pub mod Codes
+pub mod Steps
 pub mod Pulled

@@ -1,7 +1,13 @@
 -- What holds of every reading of a connection's bytes.
 use Rattle.std.specs.Prelude.{◌≡◌, ℕ, List, ◌++◌}
 use Rattle.http_session.specs.Asked.{Asked}
-use Rattle.http_session.specs.Takes.{IsWhole, Ending, TakesFrom}
+use Rattle.http_session.specs.Link.{Told}
+use Rattle.http_session.specs.Takes.{IsWhole, Ending, done, closing, bad, TakesFrom}
+use Rattle.http_session.specs.declared.bad_request.BadRequest.{BadRequest}
+use Rattle.http_session.specs.declared.bad_request.BadRequest.TheVariants.{Malformed, HeadTooLarge, CutOff}
+use Rattle.http_session.specs.Waiting.{Waiting}
+use Rattle.http_session.specs.Answers.{AnswerStep}
+use Rattle.http_session.specs.declared.reader.NextRequest.TheVariants.{Request}
 
 -- a whole request stays the same where more bytes come, which are then behind its rest
 abbrev pub WholeStays : Type 0
@@ -20,3 +26,33 @@ abbrev pub RequestsAreOne : Type 0
 RequestsAreOne =
     (number moment : ℕ) (bytes : List ℕ) (requests others : List Asked) (ending last : Ending)
     → TakesFrom number moment bytes requests ending → TakesFrom number moment bytes others last → requests ≡ others
+
+-- The two faults that may stand together with `Malformed`: a refused head that is too long as well, and a
+-- target that breaks off inside a character, which is refused only once its end has come.
+abbrev pub MayStandTogether : BadRequest → BadRequest → Type 0
+MayStandTogether Malformed HeadTooLarge = Unit {0}
+MayStandTogether HeadTooLarge Malformed = Unit {0}
+MayStandTogether Malformed CutOff = Unit {0}
+MayStandTogether CutOff Malformed = Unit {0}
+MayStandTogether one other = one ≡ other
+
+-- two endings of the same bytes
+abbrev pub Agree : Ending → Ending → Type 0
+Agree done done = Unit {0}
+Agree closing closing = Unit {0}
+Agree (bad one) (bad other) = MayStandTogether one other
+Agree one other = ⊥
+
+-- and the list has one ending
+abbrev pub EndingsAgree : Type 0
+EndingsAgree =
+    (number moment : ℕ) (bytes : List ℕ) (requests others : List Asked) (ending last : Ending)
+    → TakesFrom number moment bytes requests ending → TakesFrom number moment bytes others last → Agree ending last
+
+-- The request that a reader answers is the whole request of the bytes held and all of the input still to
+-- come, and what is then held and still to come is its rest, however the link cuts its input.
+abbrev pub AnsweredOfAll : Type 0
+AnsweredOfAll =
+    (old new : Waiting) (before now : Told) (asked : Asked)
+    → AnswerStep (Request asked) old new before now
+    → IsWhole new.given before.moment (old.held ++ before.to_come) asked (new.held ++ now.to_come)

@@ -1,4 +1,6 @@
 //! Why bytes are no request that is served.
+ghost use Rattle.std.specs.Prelude.{◌≡◌, option_map};
+ghost use Rattle.http_session.specs.Codes.{fault_code};
 
 /// The faults of a connection's bytes. After each of them the connection is closed.
 #[derive(Clone, Copy, Debug, PartialEq, Eq)]
@@ -18,7 +20,9 @@ pub enum BadRequest {
 impl BadRequest {
     /// The code that a reply shows. A request that was cut off has no reply, and one whose body is
     /// chunked has none of these codes.
-    pub fn code(self) -> Option<&'static str> {
+    pub fn code(self) -> Option<&'static str>
+        ensures { option_map (λ code. code.now) result ≡ fault_code self }
+    {
         match self {
             BadRequest::Malformed => Some("H1"),
             BadRequest::HeadTooLarge => Some("H2"),

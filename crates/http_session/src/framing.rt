@@ -36,7 +36,8 @@ pub(crate) fn body_length(text: &[u8], headers: &[HeaderSpan]) -> Result<usize, 
 }
 
 fn coded_body(coding: &[u8], lengths: Named<'_>) -> BadRequest
-    ensures { (values : List (List ℕ)) → IsNamed values lengths.entry → Err result ≡ length_by (Some coding.now) values }
+    ensures { (values : List (List ℕ)) → IsNamed values lengths.entry
+        → Err result ≡ length_by (Some coding.now) values }
 {
     match lengths {
         Named::Absent => {
@@ -93,7 +94,8 @@ fn decimal_value(digits: &[u8]) -> u64
 /// Whether a header of Connection has the member `close`.
 pub(crate) fn asks_to_close(text: &[u8], headers: &[HeaderSpan]) -> bool
     requires { All (IsHeaderWithin (length text.now)) headers.now }
-    ensures { result ≡ list_any has_close (all_named (codes "connection") (map (header_bytes text.now) headers.now)) }
+    ensures { result ≡ list_any has_close
+        (all_named (codes "connection") (map (header_bytes text.now) headers.now)) }
 {
     let mut rest = headers;
     while let Some((value, others)) = first_header(text, rest, b"connection") {

@@ -76,10 +76,13 @@ pub(crate) fn first_header<'h>(
     requires { All (IsHeaderWithin (length text.now)) headers.now }
     ensures within { IfSome result (λ found.
         IsWithin (length text.now) found.0 × All (IsHeaderWithin (length text.now)) found.1.now) }
-    ensures some { IfSome result (λ found. all_named name.now (map (header_bytes text.now) headers.now)
-        ≡ span_bytes text.now found.0 ∷ all_named name.now (map (header_bytes text.now) found.1.now)) }
+    ensures some { IfSome result (λ found.
+        all_named name.now (map (header_bytes text.now) headers.now)
+        ≡ span_bytes text.now found.0
+        ∷ all_named name.now (map (header_bytes text.now) found.1.now)) }
     ensures shorter { IfSome result (λ found. length found.1.now < length headers.now) }
-    ensures none { IfNone result (all_named name.now (map (header_bytes text.now) headers.now) ≡ []) }
+    ensures none { IfNone result
+        (all_named name.now (map (header_bytes text.now) headers.now) ≡ []) }
 {
     for (i, header) in headers.iter().enumerate() {
         if header.name.of(text).eq_ignore_ascii_case(name) {

@@ -17,10 +17,12 @@ pub trait Link {
     /// How often a read or a write has failed.
     ghost faults: { Self → ℕ };
 
-    /// Reads some bytes to the front of `into`. 0 for a room that isn't empty is the end of input.
+    /// Reads some bytes to the front of `into`, and says how many. 0 for a room that isn't empty is
+    /// the end of input.
     fn read(&mut self, into: &mut [u8]) -> Result<usize, Failed>
         ensures bound { IfOk result (λ count. count ≤ length into.old) }
-        ensures told { Goes (ReadStep result (length into.old) into.new) (told self.old) (told self.new) }
+        ensures told { Goes (ReadStep result (length into.old) into.new)
+            (told self.old) (told self.new) }
         ensures cause { HasCause (faults self.old) (faults self.new) result };
 
     /// Writes the first bytes of `from`, and says how many.
@@ -33,7 +35,8 @@ pub trait Link {
     /// The moment, in milliseconds since 1970.
     fn moment(&mut self) -> u64
         ensures last { result ≤ LAST_MOMENT }
-        ensures told { Goes (λ old new. (new ≡ old) × (result ≡ old.moment)) (told self.old) (told self.new) }
+        ensures told { Goes (λ old new. (new ≡ old) × (result ≡ old.moment))
+            (told self.old) (told self.new) }
         ensures faults { faults self.new ≡ faults self.old };
 
     /// Closes the connection.

@@ -44,8 +44,9 @@ impl Model for MemoryLink {
 }
 
 impl MemoryLink {
-    /// A link that gives the input in pieces that end at the cuts, and fails the reads and writes of
-    /// these numbers, counted together from 0. A cut that would make an empty piece counts for nothing.
+    /// A link that gives the input in pieces that end at the cuts, and fails the reads and writes
+    /// of these numbers, counted together from 0. A cut that would make an empty piece counts for
+    /// nothing, and a write for which memory is wanting fails too.
     pub fn new(
         alloc: Global,
         input: Vec<u8>,
@@ -91,11 +92,13 @@ impl MemoryLink {
     // Counts a read or a write, and fails it where its number is one of those that fail.
     fn begin(&mut self) -> Result<(), Failed>
         ensures told { self.new.told ≡ self.old.told }
-        ensures script { (self.new.cuts ≡ self.old.cuts) × (self.new.failing ≡ self.old.failing) }
+        ensures script { (self.new.cuts ≡ self.old.cuts)
+            × (self.new.failing ≡ self.old.failing) }
         ensures refused { self.new.refused ≡ self.old.refused }
         ensures calls { self.new.calls ≡ min (self.old.calls + 1) (2 ^ 64 - 1) }
         ensures ok { OnOk result (self.new.failed ≡ self.old.failed) }
-        ensures err { OnErr result (self.new.failed ≡ min (self.old.failed + 1) (2 ^ 64 - 1)) }
+        ensures err { OnErr result
+            (self.new.failed ≡ min (self.old.failed + 1) (2 ^ 64 - 1)) }
     {
         let call = self.calls;
         self.calls = call.saturating_add(1);
@@ -107,7 +110,7 @@ impl MemoryLink {
     }
 }
 
-// Where the piece that begins at a place ends: at the first cut past it, or at the end of the input.
+// Where the piece that begins at a place ends: at the first cut past it, or at the input's end.
 fn piece_end(at: usize, length: usize, cuts: &[usize]) -> usize
     requires { at ≤ length }
     ensures within { result ≤ length }

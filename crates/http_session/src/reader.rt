@@ -3,7 +3,8 @@ ghost use Rattle.std.specs.Prelude.{◌≡◌, ◌≤◌, ℕ, [], false, true, 
 ghost use Rattle.httparse.specs.Grammar.{RequestHead};
 ghost use Rattle.http_session.specs.Link.{Rose};
 ghost use Rattle.http_session.specs.HeadRead.{IsHeadAt};
-ghost use Rattle.http_session.specs.Answers.{IsFaultOf, Continues, StopsAt, HeadStep, BodyStep, RestStep, RequestStep, AnswerStep};
+ghost use Rattle.http_session.specs.Answers.{Continues, AnswerStep};
+ghost use Rattle.http_session.specs.Steps.{IsFaultOf, StopsAt, HeadStep, BodyStep, RestStep, RequestStep};
 ghost use Rattle.http_session.specs.Heads.{IsUnfinished};
 ghost use Rattle.http_session.specs.Link.{Told, Goes};
 ghost use Rattle.http_session.specs.Asked.{Asked};
@@ -66,7 +67,11 @@ impl Model for Reader {
 
     ghost use Rattle.http_session.specs.ReaderState.{held_in, is_ended};
 
-    ghost view = { λ a. record { held = held_in a.state; ended = is_ended a.state; given = a.given } };
+    ghost view = { λ a. record {
+      held = held_in a.state;
+      ended = is_ended a.state;
+      given = a.given;
+    } };
 
     ghost invariant = { λ a. a.given ≤ 1000000 };
 }

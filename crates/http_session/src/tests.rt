@@ -1,7 +1,7 @@
 //! What no clause says: whole exchanges, byte by byte.
 use crate::{
     Allow, BadRequest, Body, Link, LinkFault, MemoryLink, Method, NextRequest, Reader, Reply,
-    Request, RequestParts, Status, Text, write_reply,
+    Request, RequestParts, Status, StdioLink, Text, write_reply,
 };
 use std::alloc::{AllocError, Global};
 use std::process::Abort;
@@ -331,5 +331,28 @@ fn a_long_body_goes_out_whole_and_a_failing_write_leaves_a_prefix(
     assert!(rt; write_reply(&mut cut, &reply) == Err(LinkFault(1)));
     assert!(rt; whole.given().starts_with(cut.given()) && !cut.given().is_empty());
     assert_eq!(rt; cut.refused(), 0);
+    Ok(())
+}
+
+#[test]
+fn a_small_reply_goes_out_by_one_write(rt: HostRuntime) -> Result<(), Fail> {
+    let alloc = rt.alloc();
+    let mut second = Vec::new(alloc);
+    second.push(1)?;
+    let mut link = MemoryLink::new(alloc, Vec::new(alloc), Vec::new(alloc), NOW, second);
+    let reply = reply_of(Status::NotFound, Text::Json, Body::kept(b"{}"));
+    assert!(rt; write_reply(&mut link, &reply).is_ok());
+    let length = link.given().len();
+    assert!(rt; write_reply(&mut link, &reply) == Err(LinkFault(1)));
+    assert_eq!(rt; link.given().len(), length);
+    Ok(())
+}
+
+#[test]
+fn the_real_clock_is_past_2020(rt: HostRuntime) -> Result<(), Fail> {
+    let mut link = StdioLink::new(rt.clone()?);
+    assert!(rt; 1_577_836_800_000 < link.moment());
+    assert_eq!(rt; link.faults(), 0);
+    link.end();
     Ok(())
 }

@@ -9,8 +9,8 @@ use crate::link::{Failed, Link};
 use crate::reply::{Allow, Reply, Status};
 use arrayvec::ArrayVec;
 
-// Room for a head, and for a body that goes out with it: on a kept connection the second of two small
-// writes waits for the peer.
+// Room for a head, and for a body that goes out with it: on a kept connection the second of two
+// small writes waits for the peer.
 const ROOM: usize = 4_096;
 
 type Room = ArrayVec<u8, ROOM>;
@@ -21,9 +21,11 @@ pub struct LinkFault(pub u64);
 
 /// Writes a reply. After a fault a prefix of its bytes was given.
 pub fn write_reply<L: Link>(link: &mut L, reply: &Reply) -> Result<(), LinkFault>
-    ensures told { Goes (WriteAll result (bytes_of_reply reply.entry.now)) (L.told link.old) (L.told link.new) }
+    ensures told { Goes (WriteAll result (bytes_of_reply reply.entry.now))
+        (L.told link.old) (L.told link.new) }
     ensures count { L.faults link.old ≤ L.faults link.new }
-    ensures fault { IfErr result (λ fault. Rose (L.faults link.old) (L.faults link.new) × (fault.0 ≡ L.faults link.new)) }
+    ensures fault { IfErr result (λ fault.
+        Rose (L.faults link.old) (L.faults link.new) × (fault.0 ≡ L.faults link.new)) }
 {
     let mut out = Room::new();
     put_head(&mut out, reply);
@@ -40,7 +42,8 @@ pub fn write_reply<L: Link>(link: &mut L, reply: &Reply) -> Result<(), LinkFault
 fn write_whole<L: Link>(link: &mut L, bytes: &[u8]) -> Result<(), LinkFault>
     ensures told { Goes (WriteAll result bytes.now) (L.told link.old) (L.told link.new) }
     ensures count { L.faults link.old ≤ L.faults link.new }
-    ensures fault { IfErr result (λ fault. Rose (L.faults link.old) (L.faults link.new) × (fault.0 ≡ L.faults link.new)) }
+    ensures fault { IfErr result (λ fault.
+        Rose (L.faults link.old) (L.faults link.new) × (fault.0 ≡ L.faults link.new)) }
 {
     let mut rest = bytes;
     while !rest.is_empty() {

@@ -58,7 +58,7 @@ pub tenant_total-next : (history : List Push) (tenant : List ℕ) (i : ℕ) (pus
     → tenant_total (take (i + 1) history) tenant ≡ tenant_total (take i history) tenant + (if pointwise nat_eq push.tenant tenant then profiles_total push.profiles else 0)
 tenant_total-next history tenant i push short is =
     let next : take (i + 1) history ≡ take i history ++ push ∷ [] =
-        rw add-one (take-suc history i push short ∙ ap (λ (last : Push). take i history ++ last ∷ []) (sym is)) in
+    rw add-one (take-suc history i push short ∙ ap (λ (last : Push). take i history ++ last ∷ []) (sym is)) in
     rw next (tenant_total-push (take i history) push tenant)
 
 -- no front of a history has a larger total than the whole

@@ -1,3 +1,4 @@
 pub mod SumLemmas
+pub mod SumLawLemmas
 pub mod KindLemmas
 pub mod HistoryLemmas

@@ -3,6 +3,7 @@ pub mod Stacks
 pub mod StackOrder
 pub mod ReadStacks
 pub mod Sums
+pub mod SumLaw
 pub mod StoredSums
 pub mod TenantPlaces
 pub mod Tenants

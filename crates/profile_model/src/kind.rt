@@ -1,5 +1,5 @@
 // What the values of a profile count.
-ghost use Rattle.std.specs.Prelude.{◌≡◌, ◌≢◌, [], ◌∷◌, length, MatchOption, IfOk};
+ghost use Rattle.std.specs.Prelude.{◌≡◌, ◌≢◌, [], ◌∷◌, length, MatchOption, IfOk, IsErrOf};
 ghost use Rattle.profile_model.specs.Kinds.{IsPart, parts_of};
 
 use crate::Name;
@@ -43,6 +43,7 @@ impl ProfileType {
     /// The type of this text, whose parts stand between four `:`.
     pub fn read(alloc: Global, text: &str) -> Result<ProfileType, TypeFault>
         ensures read { IsReadType text.now result }
+        ensures refused { length (parts_of text.now) ≢ 5 → IsErrOf result TypeFault.NotFiveParts }
     {
         match five_parts(text) {
             Some(parts) => parts.kept(alloc).map_err(|_| TypeFault::Memory),

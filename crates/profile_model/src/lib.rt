@@ -4,6 +4,7 @@
 mod history;
 mod kind;
 mod labels;
+mod laws;
 mod name;
 mod profile;
 mod push;
@@ -16,6 +17,7 @@ mod tests;
 pub use history::{front, kept_total};
 pub use kind::{ProfileType, TypeFault};
 pub use labels::{LabelSet, MAX_VALUE_BYTES, SERVICE_LABEL};
+pub use laws::sums_are_exact;
 pub use name::{Name, NameFault};
 pub use profile::{MAX_PROFILES, Profile, Profiles};
 pub use push::Push;

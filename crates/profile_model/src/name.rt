@@ -1,5 +1,5 @@
 // A text that many profiles share.
-ghost use Rattle.std.specs.Prelude.{◌≡◌, ◌↔◌, [], length, IfOk, IsTrue, nat_eq, refl, Some};
+ghost use Rattle.std.specs.Prelude.{◌≡◌, ◌↔◌, [], length, IfOk, IsErrOf, IsTrue, nat_eq, refl, Some};
 ghost use Rattle.std.specs.Str.{IsUtf8, IsValidUpTo};
 ghost use Rattle.std.specs.Ordering.{nat_cmp};
 ghost use Rattle.std.specs.Cmp.Lexicographic.{pointwise, slice_cmp, nat_list_eq_equiv, nat_list_cmp_total, texts_ties, texts_po};
@@ -53,6 +53,7 @@ impl Name {
     /// The text of these bytes.
     pub fn read(alloc: Global, bytes: &[u8]) -> Result<Name, NameFault>
         ensures read { IsReadName bytes.now result }
+        ensures memory { IsErrOf result NameFault.Memory → IsUtf8 bytes.now }
     {
         match str::from_utf8(bytes) {
             Ok(text) => Name::from_text(alloc, text).map_err(|_| NameFault::Memory),

@@ -64,6 +64,7 @@ impl StackSums {
     pub fn add(&mut self, stack: Stack, value: u64) -> Result<(), AddFault>
         ensures ok { OnOk result (self.new ≡ with_added self.old stack value) }
         ensures sum { IsErrOf result AddFault.Sum → 2 ^ 63 ≤ total_of self.old + value }
+        ensures over { 2 ^ 63 ≤ total_of self.old + value → IsErrOf result AddFault.Sum }
         ensures fits { OnOk result (total_of self.old + value < 2 ^ 63) }
         ensures total { OnOk result (total_of self.new ≡ total_of self.old + value) }
         ensures err { OnErr result (self.new ≡ self.old) }

@@ -1,5 +1,5 @@
 // Who pushes and asks.
-ghost use Rattle.std.specs.Prelude.{◌≡◌, None, not, position};
+ghost use Rattle.std.specs.Prelude.{◌≡◌, ℕ, None, Some, not, position, IsErrOf};
 ghost use Rattle.profile_model.specs.TenantPlaces.{is_dots, is_tenant_byte, wrong_place};
 ghost use Rattle.profile_model.specs.Tenants.{IsReadTenant};
 
@@ -52,6 +52,7 @@ impl Tenant {
     /// The tenant of these bytes.
     pub fn read(alloc: Global, bytes: &[u8]) -> Result<Tenant, TenantFault>
         ensures read { IsReadTenant bytes.now result }
+        ensures refused { (at : ℕ) → wrong_place bytes.now ≡ Some at → IsErrOf result (TenantFault.BadTenant at) }
     {
         if let Some(at) = wrong_tenant_byte(bytes) {
             return Err(TenantFault::BadTenant(at));

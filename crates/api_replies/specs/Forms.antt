@@ -3,6 +3,7 @@ use Rattle.std.specs.Prelude.{◌≡◌, ◌≢◌, ◌==◌, ◌||◌, ◌&&◌
 use Rattle.std.specs.Char.{to_ascii_lowercase}
 use Rattle.std.specs.Cmp.Lexicographic.{pointwise}
 use Rattle.std.specs.List.{list_any, starts_with, position_or_len, before_first, after_first}
+use Rattle.std.specs.String.{string_bytes}
 use Rattle.std.specs.Str.Lossy.{utf8_lossy}
 use Rattle.form_urlencoded.specs.Form.{raw_pairs, decode}
 use Rattle.http_session.specs.Asked.{Asked}
@@ -11,6 +12,7 @@ use Rattle.http_session.specs.declared.method.Method.TheVariants.{Get, Post, Oth
 use Rattle.profile_model.specs.Kinds.{parts_of}
 use Rattle.profile_model.specs.ReadKinds.{parts_in}
 use Rattle.profile_model.specs.declared.kind.ProfileType.{ProfileType}
+use Rattle.api_replies.specs.declared.parameters.Parameter.{Parameter}
 use Rattle.api_replies.specs.declared.meaning.Route.{Route}
 use Rattle.api_replies.specs.declared.meaning.Route.TheVariants.{Ingest, Render}
 
@@ -44,9 +46,19 @@ has_unbuilt_form asked = is_coded asked.encoding || (starts_with nat_eq asked.bo
 abbrev pub decoded : List ℕ → List ℕ
 decoded bytes = utf8_lossy (decode bytes)
 
+abbrev pub decoded_pair : List ℕ × List ℕ → List ℕ × List ℕ
+decoded_pair pair = (decoded pair.0, decoded pair.1)
+
 -- the parameters of a query, in order
 abbrev pub parameters_of : List ℕ → List (List ℕ × List ℕ)
-parameters_of query = map (λ pair. (decoded pair.0, decoded pair.1)) (raw_pairs query)
+parameters_of query = map decoded_pair (raw_pairs query)
+
+-- parameters as they are kept
+abbrev pub pair_of : Parameter → List ℕ × List ℕ
+pair_of parameter = (string_bytes parameter.name, string_bytes parameter.value)
+
+abbrev pub pairs_of : List Parameter → List (List ℕ × List ℕ)
+pairs_of parameters = map pair_of parameters
 
 abbrev pub is_brace : ℕ → Bool
 is_brace b = b == 123

@@ -1,5 +1,5 @@
 -- The replies, down to their bodies.
-use Rattle.std.specs.Prelude.{◌≡◌, ◌≢◌, ◌&&◌, ◌⊎◌, ℕ, Bool, true, List, [], filter, nat_eq, codes, Option, Some, None}
+use Rattle.std.specs.Prelude.{◌≡◌, ◌≢◌, ◌⊎◌, ℕ, Bool, true, List, [], filter, nat_eq, codes, Option, Some, None}
 use Rattle.std.specs.Cmp.Lexicographic.{pointwise}
 use Rattle.http_session.specs.Asked.{Asked}
 use Rattle.http_session.specs.declared.bad_request.BadRequest.{BadRequest}
@@ -8,15 +8,14 @@ use Rattle.http_session.specs.declared.reply.Reply.{Reply}
 use Rattle.http_session.specs.declared.reply.Status.{Status}
 use Rattle.http_session.specs.declared.reply.Status.TheVariants as status
 use Rattle.http_session.specs.declared.reply.Text.TheVariants.{Json, Plain}
-use Rattle.folded_reader.specs.Faults as folded
+use Rattle.folded_reader.specs.Faults.{code_of, place_of}
 use Rattle.folded_reader.specs.Written.{written_text}
-use Rattle.folded_reader.specs.declared.fault.FoldedFault.{FoldedFault}
 use Rattle.profile_model.specs.History.{front_of, rows_of, sums_of_rows}
 use Rattle.profile_model.specs.ReadKinds.{parts_in}
 use Rattle.profile_model.specs.declared.kind.ProfileType.{ProfileType}
 use Rattle.profile_model.specs.declared.profile.Profile.{Profile}
 use Rattle.profile_model.specs.declared.push.Push.{Push}
-use Rattle.api_replies.specs.FaultBodies.{named_body, placed_body, placeless_body, limit_body}
+use Rattle.api_replies.specs.FaultBodies.{named_body, placed_body, coded_body, limit_body}
 use Rattle.api_replies.specs.Meanings.{IsAsk, IsRefused, IsWrite}
 use Rattle.api_replies.specs.declared.answered.Answered.{Answered}
 use Rattle.api_replies.specs.declared.answered.Answered.TheVariants as answered
@@ -37,17 +36,16 @@ answering body front now close = record { status = status.Ok; text = Plain; body
 abbrev pub reply_for_memory : ℕ → Bool → Reply
 reply_for_memory = refusing status.InternalServerError (named_body (codes "memory"))
 
--- a fault of folded text by its code and its place
-abbrev pub folded_body : Option (List ℕ) → Option ℕ → List ℕ
-folded_body None place = named_body (codes "memory")
-folded_body (Some code) None = placeless_body code
-folded_body (Some code) (Some place) = placed_body code place
+-- a fault of reading, by its code and its place; want of memory has no code
+abbrev pub reply_for_fault : Option (List ℕ) → Option ℕ → ℕ → Bool → Reply
+reply_for_fault None place = reply_for_memory
+reply_for_fault (Some code) place = refusing status.BadRequest (coded_body code place)
 
 abbrev pub reply_for_refusal : Refusal → ℕ → Bool → Reply
 reply_for_refusal Unbuilt = refusing status.NotImplemented (named_body (codes "unbuilt"))
 reply_for_refusal NoTenant = refusing status.Unauthorized (named_body (codes "tenant"))
 reply_for_refusal (BadTenant at) = refusing status.BadRequest (placed_body (codes "T1") at)
-reply_for_refusal (Folded fault) = refusing status.BadRequest (folded_body (folded.code_of fault) (folded.place_of fault))
+reply_for_refusal (Folded fault) = reply_for_fault (code_of fault) (place_of fault)
 reply_for_refusal Memory = reply_for_memory
 
 -- the last reply of a connection whose bytes are no request, and none where they were cut off
@@ -78,11 +76,10 @@ asked_rows history ask =
 abbrev pub rendered : List Push → Ask → ℕ → Bool → Reply
 rendered history ask = answering (written_text (sums_of_rows (asked_rows history ask))) (front_of history ask.tenant)
 
--- A request over a history has this reply, at its own moment. Want of memory is the one free answer.
+-- A request over a history has this reply, at its own moment. Of a query too, want of memory is a refusal.
 abbrev pub IsReply : Bool → Asked → List Push → Reply → Type 0
 IsReply single asked history reply =
-    (reply ≡ reply_for_memory asked.moment asked.close)
-    ⊎ ((refusal : Refusal) × (refusal ≢ Memory) × IsRefused single asked refusal × (reply ≡ reply_for_refusal refusal asked.moment asked.close))
+    ((refusal : Refusal) × IsRefused single asked refusal × (reply ≡ reply_for_refusal refusal asked.moment asked.close))
     ⊎ ((ask : Ask) × IsAsk single asked ask × (reply ≡ rendered history ask asked.moment asked.close))
 
 -- what is answered: that reply, or the write that the request is

@@ -1,5 +1,7 @@
 // The reply to a request over a history, or the write that it asks for.
+ghost use Rattle.std.specs.Prelude.{◌≡◌, ◌⊎◌};
 ghost use Rattle.profile_model.specs.History.{HasBoundedTotals};
+ghost use Rattle.api_replies.specs.Replies.{IsAnswer, answering, rendered, reply_for_memory};
 
 use crate::ask::Ask;
 use crate::config::Config;
@@ -21,6 +23,7 @@ pub enum Answered {
 /// The reply to a request over the pushes that were accepted before it, or its push.
 pub fn answer(alloc: Global, request: &Request, history: &[Push], config: &Config) -> Answered
     requires { HasBoundedTotals history.now }
+    ensures answer { IsAnswer config.now.single_tenant request.now history.now result }
 {
     match meaning_of(alloc, request, config) {
         Ok(Meaning::Write(push)) => Answered::Push(push),
@@ -31,18 +34,32 @@ pub fn answer(alloc: Global, request: &Request, history: &[Push], config: &Confi
 
 fn render(alloc: Global, request: &Request, history: &[Push], ask: &Ask) -> Reply
     requires { HasBoundedTotals history.now }
+    ensures { (result ≡ rendered history.now ask.now request.now.moment request.now.close)
+        ⊎ (result ≡ reply_for_memory request.now.moment request.now.close) }
 {
     let (now, close) = (request.moment(), request.close());
     match folded_text(alloc, history, ask) {
-        Ok(text) => Reply {
-            status: Status::Ok,
-            text: Text::Plain,
-            body: Body::from_vec(text),
-            allow: None,
-            front: Some(front(history, &ask.tenant)),
+        Ok(text) => plain(
+            Body::from_vec(text),
+            front(history, &ask.tenant),
             now,
             close,
-        },
+        ),
         Err(_) => memory_reply(now, close),
+    }
+}
+
+/// An answer in plain text that counts so many pushes.
+pub(crate) fn plain(body: Body, front: u64, now: u64, close: bool) -> Reply
+    ensures { result ≡ answering body front now close }
+{
+    Reply {
+        status: Status::Ok,
+        text: Text::Plain,
+        body,
+        allow: None,
+        front: Some(front),
+        now,
+        close,
     }
 }

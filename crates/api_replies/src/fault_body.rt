@@ -1,6 +1,6 @@
 // The bodies of refusals: compact JSON, keys ascending. They take no memory.
 ghost use Rattle.std.specs.Prelude.{◌≡◌, ◌+◌, ◌≤◌, ◌++◌, length, decimal};
-ghost use Rattle.api_replies.specs.FaultBodies.{limit_body, named_body, placed_body, placeless_body};
+ghost use Rattle.api_replies.specs.FaultBodies.{coded_body, limit_body, named_body, placed_body, placeless_body};
 
 use arrayvec::ArrayString;
 use http_session::Body;
@@ -45,6 +45,17 @@ pub(crate) fn placed(code: &str, at: u64) -> Body
     append(&mut text, Buffer::new().format(at));
     append(&mut text, "]}");
     Body::kept(text.as_str().as_bytes())
+}
+
+/// A code with its place, where it has one.
+pub(crate) fn coded(code: &str, place: Option<u64>) -> Body
+    requires { length code.now ≤ 100 }
+    ensures { result ≡ coded_body code.now place }
+{
+    match place {
+        Some(at) => placed(code, at),
+        None => placeless(code),
+    }
 }
 
 /// `{"asked":PUSH,"fault":"limit","kept":KEPT,"limit":LIMIT}`

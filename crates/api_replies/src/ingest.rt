@@ -1,6 +1,9 @@
 // A push of folded stacks.
-ghost use Rattle.std.specs.Prelude.{IfSome, IsTrue};
+ghost use Rattle.std.specs.Prelude.{◌≡◌, [], ◌∷◌, codes, IfOk, IfSome, IsTrue, MatchResult, option_map};
 ghost use Rattle.profile_model.specs.LabelSets.{IsLabelValue};
+ghost use Rattle.profile_model.specs.ReadKinds.{parts_in};
+ghost use Rattle.api_replies.specs.Forms.{is_service, only_service, pairs_of};
+ghost use Rattle.api_replies.specs.Meanings.{IsFoldedPush, IsPushRefused, SaysPush};
 
 use crate::parameters::Parameter;
 use crate::refusal::Refusal;
@@ -17,7 +20,11 @@ pub(crate) fn read_ingest(
     tenant: Tenant,
     request: &Request,
     parameters: &[Parameter],
-) -> Result<Push, Refusal> {
+) -> Result<Push, Refusal>
+    ensures { MatchResult result
+        (λ push. (push.tenant ≡ tenant) × SaysPush (pairs_of parameters.now) request.now push)
+        (IsPushRefused (pairs_of parameters.now) request.now) }
+{
     let Some(service) = only_service(parameters) else {
         return Err(Refusal::Unbuilt);
     };
@@ -34,7 +41,8 @@ pub(crate) fn read_ingest(
 
 // The service, where it is all that the parameters say.
 fn only_service(parameters: &[Parameter]) -> Option<&str>
-    ensures { IfSome result (λ service. IsLabelValue service.now) }
+    ensures value { option_map (λ service. service.now) result ≡ only_service (pairs_of parameters.now) }
+    ensures label { IfSome result (λ service. IsLabelValue service.now) }
 {
     let [only] = parameters else {
         return None;
@@ -48,9 +56,10 @@ fn only_service(parameters: &[Parameter]) -> Option<&str>
 }
 
 fn is_service(text: &str) -> bool
-    ensures { IsTrue result → IsLabelValue text.now }
+    ensures value { result ≡ is_service text.now }
+    ensures label { IsTrue result → IsLabelValue text.now }
 {
-    0 < text.len() && text.len() <= MAX_VALUE_BYTES && !text.contains('{')
+    0 < text.len() && text.len() <= MAX_VALUE_BYTES && !text.as_bytes().contains(&b'{')
 }
 
 fn push_of(
@@ -61,6 +70,7 @@ fn push_of(
     values: StackSums,
 ) -> Result<Push, AllocError>
     requires { IsLabelValue service.now }
+    ensures { IfOk result (λ push. (push.tenant ≡ tenant) × IsFoldedPush service.now time_ms values push) }
 {
     let profile = Profile {
         labels: LabelSet::of_service(alloc, Name::from_text(alloc, service)?)?,
@@ -75,7 +85,10 @@ fn push_of(
 }
 
 // The type that folded stacks are given.
-fn folded_type(alloc: Global) -> Result<ProfileType, AllocError> {
+fn folded_type(alloc: Global) -> Result<ProfileType, AllocError>
+    ensures { IfOk result (λ kind. parts_in kind ≡
+        codes "process_cpu" ∷ codes "samples" ∷ codes "count" ∷ codes "cpu" ∷ codes "nanoseconds" ∷ []) }
+{
     Ok(ProfileType {
         name: Name::from_text(alloc, "process_cpu")?,
         sample_type: Name::from_text(alloc, "samples")?,

@@ -1,4 +1,8 @@
 // What a request means, or the first refusal of it.
+ghost use Rattle.std.specs.Prelude.{◌≡◌, MatchResult, option_map};
+ghost use Rattle.api_replies.specs.Forms.{folded_query, has_unbuilt_form, is_coded, is_folded_format, kind_text, pair_of, pairs_of, route_of, tenant_of};
+ghost use Rattle.api_replies.specs.Meanings.{IsAskRefused, IsRefused, Means, SaysAsk};
+
 use crate::ask::Ask;
 use crate::config::Config;
 use crate::ingest::read_ingest;
@@ -30,7 +34,10 @@ pub(crate) fn meaning_of(
     alloc: Global,
     request: &Request,
     config: &Config,
-) -> Result<Meaning, Refusal> {
+) -> Result<Meaning, Refusal>
+    ensures { MatchResult result
+        (Means config.now.single_tenant request.now) (IsRefused config.now.single_tenant request.now) }
+{
     let Some(route) = route_of(request) else {
         return Err(Refusal::Unbuilt);
     };
@@ -55,16 +62,20 @@ pub(crate) fn meaning_of(
     }
 }
 
-fn route_of(request: &Request) -> Option<Route> {
-    match (request.method(), request.path()) {
-        (Method::Post, b"/ingest") => Some(Route::Ingest),
-        (Method::Get, b"/pyroscope/render") => Some(Route::Render),
+fn route_of(request: &Request) -> Option<Route>
+    ensures { result ≡ route_of request.now }
+{
+    match request.method() {
+        Method::Post if request.path() == b"/ingest".as_slice() => Some(Route::Ingest),
+        Method::Get if request.path() == b"/pyroscope/render".as_slice() => Some(Route::Render),
         _ => None,
     }
 }
 
 // The bytes of the tenant's name.
-fn tenant_name<'r>(request: &'r Request, config: &Config) -> Option<&'r [u8]> {
+fn tenant_name<'r>(request: &'r Request, config: &Config) -> Option<&'r [u8]>
+    ensures { option_map (λ name. name.now) result ≡ tenant_of config.now.single_tenant request.now }
+{
     if config.single_tenant {
         Some(b"anonymous")
     } else {
@@ -73,12 +84,22 @@ fn tenant_name<'r>(request: &'r Request, config: &Config) -> Option<&'r [u8]> {
 }
 
 // A coding, a compressed body or a front, which aren't read yet.
-fn has_unbuilt_form(request: &Request) -> bool {
-    let coded = match request.encoding() {
-        Some(coding) => !coding.eq_ignore_ascii_case(b"identity"),
+fn has_unbuilt_form(request: &Request) -> bool
+    ensures { result ≡ has_unbuilt_form request.now }
+{
+    is_coded(request.encoding())
+        || request.body().starts_with(b"\x1f\x8b")
+        || request.asked().is_some()
+}
+
+// A coding other than `identity`.
+fn is_coded(coding: Option<&[u8]>) -> bool
+    ensures { result ≡ is_coded (option_map (λ name. name.now) coding.entry) }
+{
+    match coding {
+        Some(name) => !name.eq_ignore_ascii_case(b"identity"),
         None => false,
-    };
-    coded || request.body().starts_with(b"\x1f\x8b") || request.asked().is_some()
+    }
 }
 
 // The one query and the one format, in either order.
@@ -87,7 +108,11 @@ fn read_render(
     tenant: Tenant,
     request: &Request,
     parameters: &[Parameter],
-) -> Result<Ask, Refusal> {
+) -> Result<Ask, Refusal>
+    ensures { MatchResult result
+        (λ ask. (ask.tenant ≡ tenant) × SaysAsk (pairs_of parameters.now) request.now ask)
+        (IsAskRefused (pairs_of parameters.now)) }
+{
     let Some(query) = folded_query(parameters) else {
         return Err(Refusal::Unbuilt);
     };
@@ -107,22 +132,33 @@ fn read_render(
     })
 }
 
-fn folded_query(parameters: &[Parameter]) -> Option<&str> {
+fn folded_query(parameters: &[Parameter]) -> Option<&str>
+    ensures { option_map (λ query. query.now) result ≡ folded_query (pairs_of parameters.now) }
+{
     let [first, second] = parameters else {
         return None;
     };
-    match (first.name.as_str(), second.name.as_str()) {
-        ("query", "format") if second.value.as_str() == "folded" => Some(first.value.as_str()),
-        ("format", "query") if first.value.as_str() == "folded" => Some(second.value.as_str()),
-        _ => None,
+    if first.name.as_str() == "query" && is_folded_format(second) {
+        Some(first.value.as_str())
+    } else if is_folded_format(first) && second.name.as_str() == "query" {
+        Some(second.value.as_str())
+    } else {
+        None
     }
 }
 
+fn is_folded_format(parameter: &Parameter) -> bool
+    ensures { result ≡ is_folded_format (pair_of parameter.now) }
+{
+    parameter.name.as_str() == "format" && parameter.value.as_str() == "folded"
+}
+
 // The type's text, where it stands alone or before empty braces.
-fn kind_text(query: &str) -> Option<&str> {
+fn kind_text(query: &str) -> Option<&str>
+    ensures { option_map (λ text. text.now) result ≡ kind_text query.now }
+{
     match query.split_once('{') {
+        Some((kind, rest)) => { if rest == "}" { Some(kind) } else { None } }
         None => Some(query),
-        Some((kind, "}")) => Some(kind),
-        Some(_) => None,
     }
 }

@@ -1,4 +1,7 @@
 // The parameters of a query string, and the forms of them that are built.
+ghost use Rattle.std.specs.Prelude.{◌≡◌, IfOk};
+ghost use Rattle.api_replies.specs.Forms.{pairs_of, parameters_of};
+
 use form_urlencoded::parse;
 use std::alloc::{AllocError, Global};
 
@@ -10,7 +13,9 @@ pub(crate) struct Parameter {
 }
 
 /// The parameters in their order.
-pub(crate) fn read_parameters(alloc: Global, query: &[u8]) -> Result<Vec<Parameter>, AllocError> {
+pub(crate) fn read_parameters(alloc: Global, query: &[u8]) -> Result<Vec<Parameter>, AllocError>
+    ensures { IfOk result (λ parameters. pairs_of parameters.items ≡ parameters_of query.now) }
+{
     let mut parameters = Vec::new(alloc);
     for pair in parse(alloc, query) {
         let (name, value) = pair?;

@@ -1,5 +1,10 @@
 // Why a request isn't served, and the reply that says so. No reply here takes memory.
-use crate::fault_body::{named, placed, placeless};
+ghost use Rattle.std.specs.Prelude.{◌≡◌, codes};
+ghost use Rattle.folded_reader.specs.Faults.{code_of, place_of};
+ghost use Rattle.api_replies.specs.FaultBodies.{named_body};
+ghost use Rattle.api_replies.specs.Replies.{last_reply, refusing, reply_for_fault, reply_for_memory, reply_for_refusal};
+
+use crate::fault_body::{coded, named, placed};
 use folded_reader::FoldedFault;
 use http_session::{BadRequest, Body, Reply, Status, Text};
 
@@ -17,7 +22,9 @@ pub(crate) enum Refusal {
 
 impl Refusal {
     /// The reply at this moment.
-    pub(crate) fn reply(self, now: u64, close: bool) -> Reply {
+    pub(crate) fn reply(self, now: u64, close: bool) -> Reply
+        ensures { result ≡ reply_for_refusal self now close }
+    {
         match self {
             Refusal::Unbuilt => unbuilt_reply(now, close),
             Refusal::NoTenant => refused(Status::Unauthorized, named("tenant"), now, close),
@@ -31,12 +38,16 @@ impl Refusal {
 }
 
 /// The reply to a request that wants more memory than there is.
-pub fn memory_reply(now: u64, close: bool) -> Reply {
+pub fn memory_reply(now: u64, close: bool) -> Reply
+    ensures { result ≡ reply_for_memory now close }
+{
     refused(Status::InternalServerError, named("memory"), now, close)
 }
 
 /// The last reply of a connection whose bytes are no request; none where they were cut off.
-pub fn closing_reply(bad: BadRequest, now: u64) -> Option<Reply> {
+pub fn closing_reply(bad: BadRequest, now: u64) -> Option<Reply>
+    ensures { result ≡ last_reply bad now }
+{
     match bad {
         BadRequest::Malformed => Some(refused(Status::BadRequest, named("H1"), now, true)),
         BadRequest::HeadTooLarge | BadRequest::BodyTooLarge | BadRequest::Chunked => {
@@ -46,20 +57,24 @@ pub fn closing_reply(bad: BadRequest, now: u64) -> Option<Reply> {
     }
 }
 
-fn unbuilt_reply(now: u64, close: bool) -> Reply {
+fn unbuilt_reply(now: u64, close: bool) -> Reply
+    ensures { result ≡ reply_for_refusal Refusal.Unbuilt now close }
+{
     refused(Status::NotImplemented, named("unbuilt"), now, close)
 }
 
-fn folded_reply(fault: FoldedFault, now: u64, close: bool) -> Reply {
-    let body = match (fault.code(), fault.place()) {
-        (Some(code), Some(place)) => placed(code, place),
-        (Some(code), None) => placeless(code),
-        (None, _) => return memory_reply(now, close),
-    };
-    refused(Status::BadRequest, body, now, close)
+fn folded_reply(fault: FoldedFault, now: u64, close: bool) -> Reply
+    ensures { result ≡ reply_for_fault (code_of fault) (place_of fault) now close }
+{
+    match fault.code() {
+        Some(code) => refused(Status::BadRequest, coded(code, fault.place()), now, close),
+        None => memory_reply(now, close),
+    }
 }
 
-fn refused(status: Status, body: Body, now: u64, close: bool) -> Reply {
+fn refused(status: Status, body: Body, now: u64, close: bool) -> Reply
+    ensures { result ≡ refusing status body now close }
+{
     Reply {
         status,
         text: Text::Json,

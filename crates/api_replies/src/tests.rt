@@ -1,6 +1,59 @@
-// The replies that settle a write, down to their bodies.
-use crate::{FirstVerdict, acknowledge};
-use http_session::Status;
+// The replies down to their bodies, and that requests are read with ample memory.
+use crate::{Answered, Config, FirstVerdict, acknowledge, answer};
+use http_session::{MemoryLink, NextRequest, Reader, Request, Status};
+use std::alloc::Global;
+use std::test::Fail;
+
+const NOW: u64 = 1_700_000_000_000;
+
+// The request of these bytes.
+fn request(alloc: Global, text: &str) -> Result<Option<Request>, Fail> {
+    let bytes = Vec::from_slice(alloc, text.as_bytes())?;
+    let mut link = MemoryLink::new(alloc, bytes, Vec::new(alloc), NOW, Vec::new(alloc));
+    let mut reader = Reader::new(alloc);
+    match reader.next_request(&mut link) {
+        NextRequest::Request(request) => Ok(Some(request)),
+        _ => Ok(None),
+    }
+}
+
+// What is answered to these bytes before any push.
+fn answered(alloc: Global, text: &str) -> Result<Option<Answered>, Fail> {
+    let config = Config {
+        single_tenant: false,
+    };
+    match request(alloc, text)? {
+        Some(request) => Ok(Some(answer(alloc, &request, &[], &config))),
+        None => Ok(None),
+    }
+}
+
+#[test]
+fn a_push_is_read(rt: HostRuntime) -> Result<(), Fail> {
+    let ingest =
+        "POST /ingest?name=app HTTP/1.1\r\nX-Scope-OrgID: t1\r\nContent-Length: 25\r\n\r\nmain;a 3\nmain;b 5\nmain 2\n";
+    let Some(Answered::Push(push)) = answered(rt.alloc(), ingest)? else {
+        assert!(rt; false);
+        return Ok(());
+    };
+    assert_eq!(rt; push.total(), 10);
+    assert_eq!(rt; push.tenant.as_bytes(), b"t1".as_slice());
+    Ok(())
+}
+
+#[test]
+fn a_query_before_any_push_is_answered_with_nothing(rt: HostRuntime) -> Result<(), Fail> {
+    let query =
+        "GET /pyroscope/render?query=process_cpu%3Asamples%3Acount%3Acpu%3Ananoseconds&format=folded HTTP/1.1\r\nX-Scope-OrgID: t1\r\n\r\n";
+    let Some(Answered::Reply(reply)) = answered(rt.alloc(), query)? else {
+        assert!(rt; false);
+        return Ok(());
+    };
+    assert_eq!(rt; reply.status, Status::Ok);
+    assert_eq!(rt; reply.front, Some(0));
+    assert_eq!(rt; reply.body.as_slice().len(), 0);
+    Ok(())
+}
 
 #[test]
 fn a_push_over_the_limit_is_told_the_three_numbers(rt: HostRuntime) {

@@ -1,4 +1,8 @@
 // The reply to a write, once its fate is settled.
+ghost use Rattle.std.specs.Prelude.{◌≡◌};
+ghost use Rattle.api_replies.specs.Replies.{reply_for_verdict};
+
+use crate::answered::plain;
 use crate::fault_body::over_limit;
 use crate::refusal::memory_reply;
 use http_session::{Body, Reply, Status, Text};
@@ -20,17 +24,11 @@ pub enum FirstVerdict {
 }
 
 /// The reply that tells a verdict. It takes no memory.
-pub fn acknowledge(verdict: FirstVerdict, now: u64, close: bool) -> Reply {
+pub fn acknowledge(verdict: FirstVerdict, now: u64, close: bool) -> Reply
+    ensures { result ≡ reply_for_verdict verdict now close }
+{
     match verdict {
-        FirstVerdict::Kept(front) => Reply {
-            status: Status::Ok,
-            text: Text::Plain,
-            body: Body::empty(),
-            allow: None,
-            front: Some(front),
-            now,
-            close,
-        },
+        FirstVerdict::Kept(front) => plain(Body::empty(), front, now, close),
         FirstVerdict::OverLimit {
             kept,
             push,

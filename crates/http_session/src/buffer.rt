@@ -1,5 +1,5 @@
 //! The bytes of a connection that were taken and belong to no request yet.
-ghost use Rattle.std.specs.Prelude.{◌≡◌, ◌+◌, ◌≤◌, ◌<◌, ◌++◌, [], length, take, drop, OnErr, IfOk};
+ghost use Rattle.std.specs.Prelude.{◌≡◌, ◌+◌, ◌≤◌, ◌<◌, [], length, drop, OnErr, IfOk};
 ghost use Rattle.http_session.specs.Link.{HasCause, Goes};
 ghost use Rattle.http_session.specs.Pulled.{FillStep};
 

@@ -1,6 +1,5 @@
 //! A link over memory, which tells all that it does.
-ghost use Rattle.std.specs.Prelude.{◌≡◌, ℕ, ◌+◌, ◌-◌, ◌^◌, ◌≤◌, ◌<◌, ◌++◌, [], min, length, Contains, IsTrue, ◌↔◌, OnOk, OnErr};
-ghost use Rattle.std.specs.Prelude.{take, drop};
+ghost use Rattle.std.specs.Prelude.{◌≡◌, ◌+◌, ◌-◌, ◌^◌, ◌≤◌, ◌<◌, [], min, length, OnOk, OnErr};
 
 use crate::link::{Failed, LAST_MOMENT, Link};
 use std::alloc::Global;

@@ -1,5 +1,5 @@
 //! The real standard streams and clock as a link. It tells nothing.
-ghost use Rattle.std.specs.Prelude.{◌≡◌, ◌≤◌, IfSome};
+ghost use Rattle.std.specs.Prelude.{◌≤◌, IfSome};
 ghost use Rattle.http_session.specs.Link.{Rose};
 
 use crate::link::{Failed, LAST_MOMENT, Link};

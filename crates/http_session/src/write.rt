@@ -1,7 +1,7 @@
 //! Writes replies to a link, without memory.
 ghost use Rattle.std.specs.Prelude.{◌≡◌, ◌+◌, ◌≤◌, ◌++◌, length, decimal, IfErr};
 ghost use Rattle.arrayvec.specs.ArrayVec.{array_vec_len};
-ghost use Rattle.http_session.specs.Link.{Goes, HasCause, Rose};
+ghost use Rattle.http_session.specs.Link.{Goes, Rose};
 ghost use Rattle.http_session.specs.Reply.{line, status_line, allow_line, front_line, close_line, head_of_reply, bytes_of_reply};
 ghost use Rattle.http_session.specs.Written.{WriteAll};
 

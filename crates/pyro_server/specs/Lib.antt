@@ -1,1 +1,5 @@
 pub mod Statuses
+pub mod Settled
+pub mod Served
+pub mod Steps
+pub mod Words

@@ -1,4 +1,9 @@
 // The top call.
+ghost use Rattle.std.specs.Prelude.{◌≡◌, ◌↔◌, [], false, map, string_bytes};
+ghost use Rattle.http_session.specs.Link.{Goes, Rose};
+ghost use Rattle.pyro_server.specs.Served.{IsServed};
+ghost use Rattle.pyro_server.specs.Words.{IsSession};
+
 use crate::session::run_session;
 use crate::status::Status;
 use crate::words::{Command, command_of};
@@ -28,7 +33,17 @@ pub fn run<D, L: Link, F, E, G>(
     doors: F,
     finish: E,
     _gate: &G,
-) -> Outcome<D, L, F, E> {
+) -> Outcome<D, L, F, E>
+    // What the one word `session` gives is the replies over one history, which is handed back.
+    ensures served { IsSession (map string_bytes words.now) → Goes (IsServed false result.history.items result.status) (L.told stdio) (L.told result.stdio) }
+    ensures cause { result.status ≡ Status.StreamFault → Rose (L.faults stdio) (L.faults result.stdio) }
+
+    // Other words are no command, and do nothing.
+    ensures no_command { (result.status ≡ Status.NoCommand) ↔ (¬ (IsSession (map string_bytes words.now))) }
+    ensures untouched { ¬ (IsSession (map string_bytes words.now)) → (result.stdio ≡ stdio) × (result.history.items ≡ []) }
+
+    ensures given_back { (result.disk ≡ disk) × (result.doors ≡ doors) × (result.finish ≡ finish) }
+{
     match command_of(words) {
         Some(Command::Session) => {
             let config = Config {

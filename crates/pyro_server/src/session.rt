@@ -1,6 +1,12 @@
 // One connection, served to its end.
-ghost use Rattle.std.specs.Prelude.{ℕ};
+ghost use Rattle.std.specs.Prelude.{◌≡◌, ◌≢◌, ◌+◌, ◌<◌, ◌≤◌, [], true, false, min};
+ghost use Rattle.http_session.specs.Link.{Goes, Rose};
+ghost use Rattle.http_session.specs.Reply.{bytes_of_reply};
+ghost use Rattle.http_session.specs.declared.reply.Reply.{Reply};
 ghost use Rattle.profile_model.specs.History.{HasBoundedTotals};
+ghost use Rattle.api_replies.specs.Replies.{last_reply, reply_for_memory};
+ghost use Rattle.pyro_server.specs.Served.{IsExchange, IsServed, bytes_of_last};
+ghost use Rattle.pyro_server.specs.Steps.{GivesLast, GivesReply, IsAnswered, ServesStep};
 
 use crate::settle::settle;
 use crate::status::Status;
@@ -23,6 +29,7 @@ pub struct Ended<D, L> {
 }
 
 // What became of one request.
+#[derive(Clone, Copy)]
 enum Step {
     /// It was answered, and the connection closes after it or not.
     Answered { close: bool },
@@ -31,7 +38,13 @@ enum Step {
 
 /// Serves the requests of one connection until it ends. It starts no thread and waits for nobody but
 /// its input.
-pub fn run_session<D, L: Link>(alloc: Global, disk: D, stdio: L, config: Config) -> Ended<D, L> {
+pub fn run_session<D, L: Link>(alloc: Global, disk: D, stdio: L, config: Config) -> Ended<D, L>
+    ensures served { Goes (IsServed config.single_tenant result.history.items result.status) (L.told stdio) (L.told result.stdio) }
+    ensures disk { result.disk ≡ disk }
+    ensures count { L.faults stdio ≤ L.faults result.stdio }
+    ensures cause { result.status ≡ Status.StreamFault → Rose (L.faults stdio) (L.faults result.stdio) }
+    ensures command { result.status ≢ Status.NoCommand }
+{
     let mut stdio = stdio;
     let mut history = Vec::new(alloc);
     let status = serve(alloc, &mut stdio, &mut history, &config);
@@ -44,20 +57,27 @@ pub fn run_session<D, L: Link>(alloc: Global, disk: D, stdio: L, config: Config)
 }
 
 fn serve<L: Link>(alloc: Global, stdio: &mut L, history: &mut Vec<Push>, config: &Config) -> Status
-    requires { HasBoundedTotals history.old.items }
+    requires { history.old.items ≡ [] }
+    ensures served { Goes (IsServed config.now.single_tenant history.new.items result) (L.told stdio.old) (L.told stdio.new) }
+    ensures count { L.faults stdio.old ≤ L.faults stdio.new }
+    ensures cause { result ≡ Status.StreamFault → Rose (L.faults stdio.old) (L.faults stdio.new) }
+    ensures command { result ≢ Status.NoCommand }
 {
     let mut reader = Reader::new(alloc);
-    for number in 1..=LAST_REQUEST {
+    for number in 1..LAST_REQUEST {
         match serve_next(alloc, &mut reader, stdio, history, config) {
             Step::Answered { close: false } => {}
-            Step::Answered { close: true } if number < LAST_REQUEST => return Status::Done,
-            Step::Answered { close: true } => return Status::LastRequest,
+            Step::Answered { close: true } => return Status::Done,
             Step::Ended(status) => return status,
         }
     }
-    Status::LastRequest
+    match serve_next(alloc, &mut reader, stdio, history, config) {
+        Step::Answered { .. } => Status::LastRequest,
+        Step::Ended(status) => status,
+    }
 }
 
+// Takes the next request and answers it, or ends the connection.
 fn serve_next<L: Link>(
     alloc: Global,
     reader: &mut Reader,
@@ -65,14 +85,18 @@ fn serve_next<L: Link>(
     history: &mut Vec<Push>,
     config: &Config,
 ) -> Step
-    requires { HasBoundedTotals history.old.items }
-    ensures { HasBoundedTotals history.new.items }
+    requires bounded { HasBoundedTotals history.old.items }
+    requires open { reader.old.ended ≡ false }
+    requires number { reader.old.given < 1000000 }
+    ensures bounded { HasBoundedTotals history.new.items }
+    ensures served { Goes (ServesStep config.now.single_tenant reader.old reader.new history.old.items history.new.items result) (L.told stdio.old) (L.told stdio.new) }
+    ensures goes_on { IsAnswered result → (reader.new.ended ≡ false) × (reader.new.given ≡ min (reader.old.given + 1) 1000000) }
+    ensures count { L.faults stdio.old ≤ L.faults stdio.new }
+    ensures cause { result ≡ Step.Ended Status.StreamFault → Rose (L.faults stdio.old) (L.faults stdio.new) }
+    ensures command { result ≢ Step.Ended Status.NoCommand }
 {
     match reader.next_request(stdio) {
-        NextRequest::Request(request) => {
-            let reply = reply_to(alloc, &request, history, config);
-            give(stdio, &reply)
-        }
+        NextRequest::Request(request) => serve_request(alloc, &request, stdio, history, config),
         NextRequest::End => Step::Ended(Status::Done),
         NextRequest::Bad(bad) => Step::Ended(refuse(stdio, bad)),
         NextRequest::LinkFault(_) => Step::Ended(Status::StreamFault),
@@ -80,10 +104,36 @@ fn serve_next<L: Link>(
     }
 }
 
-// The reply to a request. A push is settled before its reply is made.
+// A push is settled before its reply is made, and every reply is given before the next request is taken.
+fn serve_request<L: Link>(
+    alloc: Global,
+    request: &Request,
+    stdio: &mut L,
+    history: &mut Vec<Push>,
+    config: &Config,
+) -> Step
+    requires { HasBoundedTotals history.old.items }
+    ensures bounded { HasBoundedTotals history.new.items }
+    ensures exchange { (reply : Reply) × IsExchange config.now.single_tenant request.now history.old.items reply history.new.items
+        × Goes (GivesReply request.now.close reply result) (L.told stdio.old) (L.told stdio.new) }
+    ensures count { L.faults stdio.old ≤ L.faults stdio.new }
+    ensures cause { result ≡ Step.Ended Status.StreamFault → Rose (L.faults stdio.old) (L.faults stdio.new) }
+    ensures command { result ≢ Step.Ended Status.NoCommand }
+{
+    let reply = reply_to(alloc, request, history, config);
+    match write_reply(stdio, &reply) {
+        Ok(()) => Step::Answered {
+            close: request.close(),
+        },
+        Err(_) => Step::Ended(Status::StreamFault),
+    }
+}
+
+// The reply to a request, and the history after it.
 fn reply_to(alloc: Global, request: &Request, history: &mut Vec<Push>, config: &Config) -> Reply
     requires { HasBoundedTotals history.old.items }
-    ensures { HasBoundedTotals history.new.items }
+    ensures bounded { HasBoundedTotals history.new.items }
+    ensures exchange { IsExchange config.now.single_tenant request.now history.old.items result history.new.items }
 {
     match answer(alloc, request, history, config) {
         Answered::Reply(reply) => reply,
@@ -94,28 +144,39 @@ fn reply_to(alloc: Global, request: &Request, history: &mut Vec<Push>, config: &
     }
 }
 
-fn give<L: Link>(stdio: &mut L, reply: &Reply) -> Step {
-    match write_reply(stdio, reply) {
-        Ok(()) => Step::Answered { close: reply.close },
-        Err(_) => Step::Ended(Status::StreamFault),
-    }
-}
-
 // The last reply of a connection whose bytes are no request.
-fn refuse<L: Link>(stdio: &mut L, bad: BadRequest) -> Status {
+fn refuse<L: Link>(stdio: &mut L, bad: BadRequest) -> Status
+    ensures gives { Goes (λ before now. GivesLast (bytes_of_last (last_reply bad before.moment)) Status.BadRequest result before now) (L.told stdio.old) (L.told stdio.new) }
+    ensures count { L.faults stdio.old ≤ L.faults stdio.new }
+    ensures cause { result ≡ Status.StreamFault → Rose (L.faults stdio.old) (L.faults stdio.new) }
+    ensures command { result ≢ Status.NoCommand }
+{
     let now = stdio.moment();
     match closing_reply(bad, now) {
-        Some(reply) => last_reply(stdio, &reply, Status::BadRequest),
+        Some(reply) => give_last(stdio, &reply, Status::BadRequest),
         None => Status::BadRequest,
     }
 }
 
-fn give_up<L: Link>(stdio: &mut L) -> Status {
+// The last reply of a connection where memory ran out.
+fn give_up<L: Link>(stdio: &mut L) -> Status
+    ensures gives { Goes (λ before now. GivesLast (bytes_of_reply (reply_for_memory before.moment true)) Status.NoMemory result before now) (L.told stdio.old) (L.told stdio.new) }
+    ensures count { L.faults stdio.old ≤ L.faults stdio.new }
+    ensures cause { result ≡ Status.StreamFault → Rose (L.faults stdio.old) (L.faults stdio.new) }
+    ensures command { result ≢ Status.NoCommand }
+{
     let now = stdio.moment();
-    last_reply(stdio, &memory_reply(now, true), Status::NoMemory)
+    give_last(stdio, &memory_reply(now, true), Status::NoMemory)
 }
 
-fn last_reply<L: Link>(stdio: &mut L, reply: &Reply, status: Status) -> Status {
+fn give_last<L: Link>(stdio: &mut L, reply: &Reply, status: Status) -> Status
+    requires plain { status ≢ Status.StreamFault }
+    requires command { status ≢ Status.NoCommand }
+    ensures gives { Goes (GivesLast (bytes_of_reply reply.entry.now) status result) (L.told stdio.old) (L.told stdio.new) }
+    ensures count { L.faults stdio.old ≤ L.faults stdio.new }
+    ensures cause { result ≡ Status.StreamFault → Rose (L.faults stdio.old) (L.faults stdio.new) }
+    ensures command { result ≢ Status.NoCommand }
+{
     match write_reply(stdio, reply) {
         Ok(()) => status,
         Err(_) => Status::StreamFault,

@@ -1,5 +1,6 @@
 // A push joins the history, or is refused.
 ghost use Rattle.profile_model.specs.History.{HasBoundedTotals};
+ghost use Rattle.pyro_server.specs.Settled.{IsSettled};
 
 use api_replies::FirstVerdict;
 use profile_model::{MAX_TOTAL, Push, front, kept_total};
@@ -7,7 +8,8 @@ use profile_model::{MAX_TOTAL, Push, front, kept_total};
 /// Keeps the push at the history's end, where its tenant's total allows it and there is memory.
 pub(crate) fn settle(history: &mut Vec<Push>, push: Push) -> FirstVerdict
     requires { HasBoundedTotals history.old.items }
-    ensures { HasBoundedTotals history.new.items }
+    ensures bounded { HasBoundedTotals history.new.items }
+    ensures settled { IsSettled history.old.items push result history.new.items }
 {
     let kept = kept_total(history, &push.tenant);
     let adds = push.total();

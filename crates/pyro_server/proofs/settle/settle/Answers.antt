@@ -18,8 +18,8 @@ overflow_add-result c =
     let small = c.push.new.self.small in
     let fits = c.push.new.self.ok in omega arith
 
-pub returns : goal.returns
-returns c =
+pub returns-clause-bounded : goal.returns-clause-bounded
+returns-clause-bounded c =
     let kept = rw c.deref.ensures.value at c.kept_total-kept.ensures in
     let room : tenant_total c.args.history.now.items c.args.push.tenant + profiles_total c.args.push.profiles < 2 ^ 63 = omega arith in
     elim c.match-push.branch [

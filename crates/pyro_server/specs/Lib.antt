@@ -3,3 +3,4 @@ pub mod Settled
 pub mod Served
 pub mod Steps
 pub mod Words
+pub mod ServedLaws

@@ -1,6 +1,7 @@
 //! A continuous profiling server: pushes of profiles in, flame graphs and lists out.
 #![tactic(auto)]
 
+mod laws;
 mod outcome;
 mod session;
 mod settle;
@@ -10,6 +11,7 @@ mod tests;
 mod words;
 
 use http_session::StdioLink;
+pub use laws::one_history;
 pub use outcome::{Outcome, run};
 pub use session::{Ended, run_session};
 pub use status::Status;

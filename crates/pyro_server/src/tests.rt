@@ -277,3 +277,33 @@ fn another_tenant_sees_nothing(rt: HostRuntime) -> Result<(), Fail> {
     expect(&rt, &ran, given.as_str(), Status::Done, 0);
     Ok(())
 }
+
+#[test]
+fn a_compressed_body_and_too_many_headers_are_not_built(rt: HostRuntime) -> Result<(), Fail> {
+    let alloc = rt.alloc();
+    let mut bytes = Vec::from_slice(
+        alloc,
+        b"POST /ingest?name=app HTTP/1.1\r\nX-Scope-OrgID: t1\r\nContent-Length: 3\r\n\r\n\x1f\x8b\x08",
+    )?;
+    bytes.extend_from_slice(b"GET /nothing HTTP/1.1\r\n")?;
+    for _ in 0..65 {
+        bytes.extend_from_slice(b"a: b\r\n")?;
+    }
+    bytes.extend_from_slice(b"\r\n")?;
+    let mut words = Vec::new(alloc);
+    words.push(String::from_str(alloc, "session")?)?;
+    let link = MemoryLink::new(alloc, bytes, Vec::new(alloc), NOW, Vec::new(alloc));
+    let ran = run(alloc, &words, (), link, (), (), &());
+    let closed = text(
+        alloc,
+        &[
+            UNBUILT,
+            "HTTP/1.1 501 Not Implemented\r\nContent-Type: application/json\r\nContent-Length: 19",
+            AT_NOW,
+            "Connection: close\r\n\r\n{\"fault\":\"unbuilt\"}",
+        ],
+    )?;
+    expect(&rt, &ran, closed.as_str(), Status::BadRequest, 0);
+    assert_eq!(rt; ran.history.len(), 0);
+    Ok(())
+}

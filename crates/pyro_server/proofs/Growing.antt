@@ -1,0 +1,40 @@
+-- The history only grows.
+use Rattle.std.proofs.Common.{◌≡◌, ◌+◌, ◌++◌, ◌∙◌, ℕ, Bool, List, [], ◌∷◌, refl, sym, ap, inl, inr, append-nil, append_assoc}
+use Rattle.http_session.specs.Asked.{Asked}
+use Rattle.http_session.specs.declared.reply.Reply.{Reply}
+use Rattle.profile_model.specs.declared.push.Push.{Push}
+use Rattle.api_replies.specs.declared.verdict.FirstVerdict.{FirstVerdict}
+use Rattle.api_replies.specs.declared.verdict.FirstVerdict.TheVariants.{Kept, OverLimit, Memory}
+use Rattle.pyro_server.specs.Settled.{IsSettled}
+use Rattle.pyro_server.specs.Served.{Exchange, IsExchange, Serves}
+use Rattle.pyro_server.specs.ServedLaws.{HistoryGrows}
+
+-- a list that stays has nothing more at its end
+stays : (history next : List Push) → next ≡ history → (later : List Push) × (next ≡ history ++ later)
+stays history next same = ([], same ∙ sym (append-nil history))
+
+settled_grows : (history next : List Push) (push : Push) (verdict : FirstVerdict) → IsSettled history push verdict next
+    → (later : List Push) × (next ≡ history ++ later)
+settled_grows history next push (Kept front) settled = (push ∷ [], settled.2)
+settled_grows history next push (OverLimit kept adds limit front) settled = stays history next settled.5
+settled_grows history next push Memory settled = stays history next settled
+
+exchange_grows : (single : Bool) (asked : Asked) (history next : List Push) (reply : Reply) → IsExchange single asked history reply next
+    → (later : List Push) × (next ≡ history ++ later)
+exchange_grows single asked history next reply (inl (is, same)) = stays history next same
+exchange_grows single asked history next reply (inr (push, verdict, write, settled, told)) = settled_grows history next push verdict settled
+
+-- one history grows to the next, and that to the last
+both : (history next final : List Push) → (later : List Push) × (next ≡ history ++ later) → (later : List Push) × (final ≡ next ++ later)
+    → (later : List Push) × (final ≡ history ++ later)
+both history next final (one, is) (two, ends) = (one ++ two, ends ∙ ap (λ front. front ++ two) is ∙ append_assoc history one two)
+
+pub history_grows : HistoryGrows
+history_grows single number moment bytes history [] gave final status (same, ending) = stays history final same
+history_grows single number moment bytes history (one ∷ more) gave final status (rest, whole, exchange, inl (later, given, goes_on, serves)) =
+    both history one.next final (exchange_grows single one.asked history one.next one.reply exchange)
+    (history_grows single (number + 1) moment rest one.next more later final status serves)
+history_grows single number moment bytes history (one ∷ more) gave final status (rest, whole, exchange, inr (inl (given, closes, none, same, told))) =
+    both history one.next final (exchange_grows single one.asked history one.next one.reply exchange) (stays one.next final same)
+history_grows single number moment bytes history (one ∷ more) gave final status (rest, whole, exchange, inr (inr (front, none, same, told))) =
+    both history one.next final (exchange_grows single one.asked history one.next one.reply exchange) (stays one.next final same)

@@ -1,5 +1,5 @@
 -- The replies, down to their bodies.
-use Rattle.std.specs.Prelude.{◌≡◌, ◌≢◌, ◌⊎◌, ℕ, Bool, true, List, [], filter, nat_eq, codes, Option, Some, None}
+use Rattle.std.specs.Prelude.{◌≡◌, ◌⊎◌, ℕ, Bool, true, List, [], filter, nat_eq, codes, Option, Some, None}
 use Rattle.std.specs.Cmp.Lexicographic.{pointwise}
 use Rattle.http_session.specs.Asked.{Asked}
 use Rattle.http_session.specs.declared.bad_request.BadRequest.{BadRequest}

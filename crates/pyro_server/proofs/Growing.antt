@@ -1,13 +1,17 @@
 -- The history only grows.
-use Rattle.std.proofs.Common.{◌≡◌, ◌+◌, ◌++◌, ◌∙◌, ℕ, Bool, List, [], ◌∷◌, refl, sym, ap, inl, inr, append-nil, append_assoc}
+use Rattle.std.proofs.Common.{◌≡◌, ◌+◌, ◌++◌, ◌∙◌, Bool, List, [], ◌∷◌, refl, sym, ap, inl, inr, append-nil, append_assoc, true, arith, length-append}
+use Rattle.std.specs.Prelude.{nat_eq}
+use Rattle.std.specs.Cmp.Lexicographic.{pointwise, nat_list_eq_equiv}
+use Rattle.std.proofs.lemmas.List.Elements.{filter-append}
+use Rattle.profile_model.specs.History.{pushes_of}
 use Rattle.http_session.specs.Asked.{Asked}
 use Rattle.http_session.specs.declared.reply.Reply.{Reply}
 use Rattle.profile_model.specs.declared.push.Push.{Push}
 use Rattle.api_replies.specs.declared.verdict.FirstVerdict.{FirstVerdict}
 use Rattle.api_replies.specs.declared.verdict.FirstVerdict.TheVariants.{Kept, OverLimit, Memory}
 use Rattle.pyro_server.specs.Settled.{IsSettled}
-use Rattle.pyro_server.specs.Served.{Exchange, IsExchange, Serves}
-use Rattle.pyro_server.specs.ServedLaws.{HistoryGrows}
+use Rattle.pyro_server.specs.Served.{IsExchange}
+use Rattle.pyro_server.specs.ServedLaws.{HistoryGrows, KeepsItsPlace}
 
 -- a list that stays has nothing more at its end
 stays : (history next : List Push) → next ≡ history → (later : List Push) × (next ≡ history ++ later)
@@ -38,3 +42,16 @@ history_grows single number moment bytes history (one ∷ more) gave final statu
     both history one.next final (exchange_grows single one.asked history one.next one.reply exchange) (stays one.next final same)
 history_grows single number moment bytes history (one ∷ more) gave final status (rest, whole, exchange, inr (inr (front, none, same, told))) =
     both history one.next final (exchange_grows single one.asked history one.next one.reply exchange) (stays one.next final same)
+
+-- a push is one of its tenant's
+own : (push : Push) → pushes_of (push ∷ []) push.tenant ≡ push ∷ []
+own push = let same : pointwise nat_eq push.tenant push.tenant ≡ true = nat_list_eq_equiv.refl push.tenant in rw same refl
+
+pub keeps_its_place : KeepsItsPlace
+keeps_its_place history next later push front (told, room, kept) =
+    let mine = λ (one : Push). pointwise nat_eq one.tenant push.tenant in
+    let count = length-append (pushes_of history push.tenant) (push ∷ []) in (
+      omega arith,
+      rw kept (filter-append mine (history ++ push ∷ []) later
+          ∙ ap (λ front. front ++ pushes_of later push.tenant) (filter-append mine history (push ∷ []) ∙ ap (λ last. pushes_of history push.tenant ++ last) (own push))),
+    )

@@ -1,5 +1,5 @@
 -- What becomes of a push.
-use Rattle.std.specs.Prelude.{◌≡◌, ◌+◌, ◌-◌, ◌^◌, ◌<◌, ◌≤◌, ℕ, List, [], ◌∷◌, ◌++◌}
+use Rattle.std.specs.Prelude.{◌≡◌, ◌+◌, ◌-◌, ◌^◌, ◌<◌, ◌≤◌, List, [], ◌∷◌, ◌++◌}
 use Rattle.profile_model.specs.Pushes.{profiles_total}
 use Rattle.profile_model.specs.History.{front_of, tenant_total}
 use Rattle.profile_model.specs.declared.push.Push.{Push}

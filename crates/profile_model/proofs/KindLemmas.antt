@@ -1,10 +1,11 @@
 -- The parts of a type's text, one after another.
-use Rattle.std.proofs.Common.{◌≡◌, ◌<◌, ◌≤◌, ℕ, List, [], ◌∷◌, length, take, ap, arith, Option, Some, None, Bor}
-use Rattle.std.specs.Prelude.{◌≢◌, MatchOption, not}
+use Rattle.std.proofs.Common.{◌≡◌, ◌==◌, ◌<◌, ◌≤◌, ℕ, Bool, true, false, cond, refl, List, [], ◌∷◌, length, take, ap, arith, Option, Some, None, Bor}
+use Rattle.std.specs.Prelude.{◌≢◌, IfOk, MatchOption, Result, Ok, Err, not}
 use Rattle.std.specs.List.{position_or_len, before_first, after_first}
 use Rattle.std.proofs.lemmas.List.{get_or-take, length-take, take_all}
 use Rattle.std.proofs.lemmas.List.Splits.{slice_split_first, slice_split_none, length-slice_split}
 use Rattle.std.proofs.lemmas.List.Sums.{fails_before_first, list_all-from_AllPass}
+use Rattle.profile_model.specs.CleanedTexts.{clean_byte, cleaned, is_mark}
 use Rattle.profile_model.specs.Kinds.{IsPart, parts_of, is_colon}
 
 -- a text up to its first colon, or any less of it, holds none
@@ -37,3 +38,19 @@ pub more_than_five : (text one two three four five : List ℕ) (a b c d e : List
 more_than_five text one two three four five a b c d e h1 h2 h3 h4 h5 =
     let l1 = ap length h1 in let l2 = ap length h2 in let l3 = ap length h3 in let l4 = ap length h4 in let l5 = ap length h5 in
     let last = length-slice_split is_colon five in λ same. omega arith
+
+-- a text without marks is a part
+no_colon : (b : ℕ) → not (is_colon (clean_byte b)) ≡ true
+no_colon b = by (b == 58) refl
+  where
+    by : (c : Bool) → (b == 58) ≡ c → not (is_colon (clean_byte b)) ≡ true
+    by true is = rw is refl
+    by false is = elim (is_mark b) as (λ (mark : Bool). not (is_colon (cond mark 95 b)) ≡ true) [ true ↦ refl | false ↦ rw is refl ]
+
+pub cleaned_part : (text : List ℕ) → IsPart (cleaned text)
+cleaned_part [] = refl
+cleaned_part (b ∷ bytes) = rw (no_colon b) (cleaned_part bytes)
+
+pub cleaned_name : {E : Type 0} (text : List ℕ) (made : Result (List ℕ) E) → IfOk made (λ name. name ≡ cleaned text) → IfOk made IsPart
+cleaned_name text (Ok name) is = rw is (cleaned_part text)
+cleaned_name text (Err e) is = tt

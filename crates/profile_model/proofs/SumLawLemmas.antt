@@ -14,72 +14,11 @@ use Rattle.std.proofs.lemmas.Bool.{true≢false, eqb-true}
 use Rattle.std.proofs.lemmas.List.Elements.{recursion_from_All, All-from_recursion}
 use Rattle.std.proofs.lemmas.List.Sums.{sum_by-cons}
 use Rattle.std.proofs.lemmas.Map.Views.{All-values-insert_entry}
+use Rattle.profile_model.proofs.EntryLemmas.{all_map, sorted-insert_entry, lookup-insert_entry, lookup-below}
 use Rattle.profile_model.specs.Stacks.{stack_cmp}
 use Rattle.profile_model.specs.StackOrder.{stack_eq, stacks_total, stacks_ties, stacks_equiv}
 use Rattle.profile_model.specs.Sums.{Sample, value_of, with_added, sums_of}
 use Rattle.profile_model.specs.SumLaw.{value_in, AreSumsOf}
-
--- ---- a key written to entries in order
-
-module _ {K X : Type 0} (P : K → Type 0) (cmp : K → K → Ordering) (k : K) (v : X) where
-  all_keys : (es : List (K × X)) → P k → AllByRecursion P (keys_of es) → AllByRecursion P (keys_of (insert_entry cmp es k v))
-  all_keys [] here all = (here, tt)
-  all_keys (e ∷ es) here all = by (cmp k e.0) (all_keys es here all.1)
-    where
-      by : (o : Ordering) → AllByRecursion P (keys_of (insert_entry cmp es k v))
-          → AllByRecursion P (keys_of (match_ordering o ((k, v) ∷ e ∷ es) ((e.0, v) ∷ es) (e ∷ insert_entry cmp es k v)))
-      by Less later = (here, all)
-      by Equal later = all
-      by Greater later = (all.0, later)
-
-all_map : {K : Type 0} {P Q : K → Type 0} → ((x : K) → P x → Q x) → (xs : List K) → AllByRecursion P xs → AllByRecursion Q xs
-all_map f [] all = tt
-all_map f (x ∷ xs) all = (f x all.0, all_map f xs all.1)
-
-module _ {K X : Type 0} {R : K → K → Ordering} (o : IsTotalOrder R) where
-  sorted-insert_entry : (es : List (K × X)) (k : K) (v : X) → IsStrictlySortedBy R (keys_of es) → IsStrictlySortedBy R (keys_of (insert_entry R es k v))
-  unfolding IsStrictlySortedBy
-  sorted-insert_entry [] k v sorted = (tt, tt)
-  sorted-insert_entry (e ∷ es) k v sorted = by (R k e.0) refl (sorted-insert_entry es k v sorted.1)
-    where
-      by : (r : Ordering) → R k e.0 ≡ r → IsStrictlySortedBy R (keys_of (insert_entry R es k v))
-          → IsStrictlySortedBy R (keys_of (match_ordering r ((k, v) ∷ e ∷ es) ((e.0, v) ∷ es) (e ∷ insert_entry R es k v)))
-      by Less is later = ((is, all_map (λ y above. o.trans k e.0 y is above) (keys_of es) sorted.0), sorted)
-      by Equal is later = sorted
-      by Greater is later = (all_keys (λ y. R e.0 y ≡ Less) R k v es (o.antisymm e.0 k ∙ ap ordering_reverse is) sorted.0, later)
-
-  -- the key has the value, and each other key what it had
-  lookup-insert_entry : (es : List (K × X)) (k : K) (v : X) (q : K)
-      → lookup (is_at (R q)) (insert_entry R es k v) ≡ cond (is_eq (R q k)) (Some v) (lookup (is_at (R q)) es)
-  lookup-insert_entry [] k v q = refl
-  lookup-insert_entry (e ∷ es) k v q = by (R k e.0) refl (lookup-insert_entry es k v q)
-    where
-      twice : (b : Bool) (x y : Option X) → cond b (Some v) y ≡ cond b (Some v) (cond b x y)
-      twice true x y = refl
-      twice false x y = refl
-
-      turned : (r s : Ordering) → R q k ≡ r → R q e.0 ≡ s → R k e.0 ≡ Greater → (y : Option X)
-          → cond (is_eq s) (Some e.1) (cond (is_eq r) (Some v) y) ≡ cond (is_eq r) (Some v) (cond (is_eq s) (Some e.1) y)
-      turned Less s at_k at_e is y = refl
-      turned Greater s at_k at_e is y = refl
-      turned Equal Less at_k at_e is y = refl
-      turned Equal Greater at_k at_e is y = refl
-      turned Equal Equal at_k at_e is y = absurd (true≢false (ap is_eq (sym at_e ∙ o.congr q k e.0 at_k ∙ is)))
-
-      by : (r : Ordering) → R k e.0 ≡ r
-          → lookup (is_at (R q)) (insert_entry R es k v) ≡ cond (is_eq (R q k)) (Some v) (lookup (is_at (R q)) es)
-          → lookup (is_at (R q)) (match_ordering r ((k, v) ∷ e ∷ es) ((e.0, v) ∷ es) (e ∷ insert_entry R es k v))
-          ≡ cond (is_eq (R q k)) (Some v) (lookup (is_at (R q)) (e ∷ es))
-      by Less is later = refl
-      by Equal is later = ap (λ b. cond (is_eq b) (Some v) (lookup (is_at (R q)) es)) (sym (alike_right o k e.0 q is))
-          ∙ twice (is_eq (R q k)) (Some e.1) (lookup (is_at (R q)) es)
-          ∙ ap (λ b. cond (is_eq (R q k)) (Some v) (cond (is_eq b) (Some e.1) (lookup (is_at (R q)) es))) (alike_right o k e.0 q is)
-      by Greater is later = ap (λ found. cond (is_eq (R q e.0)) (Some e.1) found) later ∙ turned (R q k) (R q e.0) refl refl is (lookup (is_at (R q)) es)
-
-  -- what is below all keys isn't there
-  lookup-below : (es : List (K × X)) (q : K) → AllByRecursion (λ y. R q y ≡ Less) (keys_of es) → lookup (is_at (R q)) es ≡ None
-  lookup-below [] q below = refl
-  lookup-below (e ∷ es) q below = ap (λ r. cond (is_eq r) (Some e.1) (lookup (is_at (R q)) es)) below.0 ∙ lookup-below es q below.1
 
 -- ---- one sample added
 

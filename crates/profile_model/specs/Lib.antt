@@ -1,3 +1,4 @@
+pub mod Breaks
 pub mod Names
 pub mod Stacks
 pub mod StackOrder
@@ -9,6 +10,12 @@ pub mod TenantPlaces
 pub mod Tenants
 pub mod Kinds
 pub mod ReadKinds
+pub mod TypeTexts
+pub mod CleanedTexts
 pub mod LabelSets
+pub mod LabelPlaces
+pub mod LabelOrder
+pub mod ReadLabels
 pub mod Pushes
 pub mod History
+pub mod Weights

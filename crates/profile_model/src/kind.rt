@@ -106,6 +106,21 @@ fn first_part(text: &str) -> Option<(&str, &str)>
     text.split_once(':')
 }
 
+impl fmt::Display for ProfileType {
+    ghost use Rattle.std.specs.Prelude.{Some};
+    ghost use Rattle.profile_model.specs.TypeTexts.{type_text};
+
+    ghost output = { λ kind. Some (type_text kind) };
+
+    fn fmt<W: fmt::Write>(&self, f: &mut fmt::Formatter<W>) -> fmt::Result {
+        write!(
+            f,
+            "{}:{}:{}:{}:{}",
+            self.name, self.sample_type, self.sample_unit, self.period_type, self.period_unit
+        )
+    }
+}
+
 impl Clone for ProfileType {
     ghost use Rattle.profile_model.specs.ReadKinds.{parts_in};
 

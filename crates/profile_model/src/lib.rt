@@ -1,4 +1,4 @@
-//! What a profile is: names, stacks and their sums, labels, types, tenants and pushes, with their limits.
+//! What a profile is: names, stacks and their sums, labels, types, tenants and pushes, with their limits and weights.
 #![tactic(auto)]
 
 mod history;
@@ -13,10 +13,13 @@ mod sums;
 mod tenant;
 #[cfg(test)]
 mod tests;
+mod weight;
 
 pub use history::{front, kept_total};
 pub use kind::{ProfileType, TypeFault};
-pub use labels::{LabelSet, MAX_VALUE_BYTES, SERVICE_LABEL};
+pub use labels::{
+    LabelFault, LabelSet, MAX_LABELS, MAX_NAME_BYTES, MAX_VALUE_BYTES, SERVICE_LABEL,
+};
 pub use laws::sums_are_exact;
 pub use name::{Name, NameFault};
 pub use profile::{MAX_PROFILES, Profile, Profiles};

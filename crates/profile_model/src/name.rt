@@ -6,6 +6,8 @@ ghost use Rattle.std.specs.Cmp.Lexicographic.{pointwise, slice_cmp, nat_list_eq_
 ghost use Rattle.std.specs.Cmp;
 ghost use Rattle.profile_model.specs.Stacks.{name_cmp};
 ghost use Rattle.profile_model.specs.Names.{IsReadName};
+ghost use Rattle.profile_model.specs.CleanedTexts.{clean_byte, cleaned};
+ghost use Rattle.profile_model.specs.Kinds.{IsPart};
 
 use std::alloc::{AllocError, Global};
 use std::cmp::Ordering;
@@ -69,6 +71,23 @@ impl Name {
         Ok(Name { text })
     }
 
+    /// The text with `_` in the place of each `:`, `{`, `}` and `"`: a part of a type, whatever the text.
+    pub fn cleaned(alloc: Global, text: &str) -> Result<Name, AllocError>
+        ensures value { IfOk result (λ name. name ≡ cleaned text.now) }
+        ensures part { IfOk result IsPart }
+    {
+        let bytes: Vec<u8> = text
+            .as_bytes()
+            .iter()
+            .map(|b| clean_byte(*b))
+            .collect(alloc)?;
+        // ASCII bytes that stand for ASCII bytes leave UTF-8, so this is never refused.
+        match str::from_utf8(&bytes) {
+            Ok(text) => Name::from_text(alloc, text),
+            Err(_) => Err(AllocError),
+        }
+    }
+
     pub fn as_str(&self) -> &str
         ensures { result.now ≡ self.now }
     {
@@ -93,6 +112,16 @@ impl Name {
         ensures { IsTrue result ↔ (self.now ≡ []) }
     {
         self.text.len() == 0
+    }
+}
+
+fn clean_byte(byte: u8) -> u8
+    ensures { result ≡ clean_byte byte }
+{
+    if matches!(byte, b':' | b'{' | b'}' | b'"') {
+        b'_'
+    } else {
+        byte
     }
 }
 

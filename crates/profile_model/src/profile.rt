@@ -1,5 +1,6 @@
 // Samples of one program over one stretch of time.
 ghost use Rattle.std.specs.Prelude.{◌≡◌, ◌^◌, ◌<◌, ◌≤◌, [], ◌∷◌, length, IfOk};
+ghost use Rattle.profile_model.specs.LabelSets.{AreProfileLabels};
 
 use crate::{LabelSet, ProfileType, StackSums};
 use std::alloc::{AllocError, Global};
@@ -16,6 +17,7 @@ pub struct Profile {
     /// Milliseconds since 1970.
     pub time_ms: u64,
     pub values: StackSums,
+    ghost labelled: { AreProfileLabels labels },
 }
 
 /// The profiles of one push, in its order: at most `MAX_PROFILES`.
@@ -36,12 +38,21 @@ impl Model for Profiles {
 }
 
 impl Profiles {
+    /// This profile alone.
     pub fn one(alloc: Global, profile: Profile) -> Result<Profiles, AllocError>
         ensures { IfOk result (λ profiles. profiles ≡ profile ∷ []) }
     {
         let mut items = Vec::with_capacity(alloc, 1)?;
         items.push(profile)?;
         Ok(Profiles { items })
+    }
+
+    /// These profiles. It takes no memory.
+    pub fn from_vec(items: Vec<Profile>) -> Profiles
+        requires { length items.items ≤ 4096 }
+        ensures { result ≡ items.items }
+    {
+        Profiles { items }
     }
 
     pub fn as_slice(&self) -> &[Profile]

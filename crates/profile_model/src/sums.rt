@@ -75,8 +75,12 @@ impl StackSums {
         if value == 0 {
             return Ok(());
         }
-        let held = self.value(&stack);
-        match self.values.insert(stack, held + value) {
+        if let Some(held) = self.values.get_mut(&stack) {
+            *held += value;
+            self.total += value;
+            return Ok(());
+        }
+        match self.values.insert(stack, value) {
             Ok(_) => {
                 self.total += value;
                 Ok(())

@@ -1,0 +1,6 @@
+use Rattle.std.proofs.Common.{take}
+use Rattle.profile_model.specs.LabelSets.{AreSound}
+use Rattle.profile_model.proofs.labels.first_fault.Given as goal
+
+abbrev pub invariant-loop-at : goal.invariant-loop-at
+invariant-loop-at l = AreSound (take l.at l.pairs)

@@ -1,3 +1,4 @@
 pub mod AnswerLemmas
 pub mod KindLemmas
 pub mod RenderingLemmas
+pub mod ReplyLemmas

@@ -1,18 +1,14 @@
--- The forms of a request that are built: routes, tenants and parameters.
+-- The forms of a request that are built: routes, tenants, and what parameters ask for.
 use Rattle.std.specs.Prelude.{◌≡◌, ◌≢◌, ◌==◌, ◌||◌, ◌&&◌, ℕ, Bool, true, false, not, List, [], ◌∷◌, map, length, nat_lt, nat_le, nat_eq, is_some, codes, Option, Some, None, MatchOption, if◌then◌else◌}
 use Rattle.std.specs.Char.{to_ascii_lowercase}
 use Rattle.std.specs.Cmp.Lexicographic.{pointwise}
 use Rattle.std.specs.List.{list_any, starts_with, position_or_len, before_first, after_first}
-use Rattle.std.specs.String.{string_bytes}
-use Rattle.std.specs.Str.Lossy.{utf8_lossy}
-use Rattle.form_urlencoded.specs.Form.{raw_pairs, decode}
 use Rattle.http_session.specs.Asked.{Asked}
 use Rattle.http_session.specs.declared.method.Method.{Method}
 use Rattle.http_session.specs.declared.method.Method.TheVariants.{Get, Post, Other}
 use Rattle.profile_model.specs.Kinds.{parts_of}
 use Rattle.profile_model.specs.ReadKinds.{parts_in}
 use Rattle.profile_model.specs.declared.kind.ProfileType.{ProfileType}
-use Rattle.api_replies.specs.declared.parameters.Parameter.{Parameter}
 use Rattle.api_replies.specs.declared.meaning.Route.{Route}
 use Rattle.api_replies.specs.declared.meaning.Route.TheVariants.{Ingest, Render}
 
@@ -41,24 +37,6 @@ is_coded (Some coding) = not (is_text (map to_ascii_lowercase coding) (codes "id
 -- a coding, a body that begins as gzip does, or a front: forms that aren't read yet
 abbrev pub has_unbuilt_form : Asked → Bool
 has_unbuilt_form asked = is_coded asked.encoding || (starts_with nat_eq asked.body (0x1F ∷ 0x8B ∷ []) || is_some asked.asked)
-
--- a name or a value as a form spells it, with U+FFFD for what is no UTF-8 (WHATWG URL, section 5.1)
-abbrev pub decoded : List ℕ → List ℕ
-decoded bytes = utf8_lossy (decode bytes)
-
-abbrev pub decoded_pair : List ℕ × List ℕ → List ℕ × List ℕ
-decoded_pair pair = (decoded pair.0, decoded pair.1)
-
--- the parameters of a query, in order
-abbrev pub parameters_of : List ℕ → List (List ℕ × List ℕ)
-parameters_of query = map decoded_pair (raw_pairs query)
-
--- parameters as they are kept
-abbrev pub pair_of : Parameter → List ℕ × List ℕ
-pair_of parameter = (string_bytes parameter.name, string_bytes parameter.value)
-
-abbrev pub pairs_of : List Parameter → List (List ℕ × List ℕ)
-pairs_of parameters = map pair_of parameters
 
 abbrev pub is_brace : ℕ → Bool
 is_brace b = b == 123

@@ -8,7 +8,8 @@ use Rattle.profile_model.specs.TenantPlaces.{wrong_place}
 use Rattle.profile_model.specs.ReadKinds.{parts_in}
 use Rattle.profile_model.specs.declared.profile.Profile.{Profile}
 use Rattle.profile_model.specs.declared.push.Push.{Push}
-use Rattle.api_replies.specs.Forms.{route_of, tenant_of, has_unbuilt_form, parameters_of, only_service, IsQuery, IsNoQuery}
+use Rattle.query_parameters.specs.Parameters.{parameters_of}
+use Rattle.api_replies.specs.Forms.{route_of, tenant_of, has_unbuilt_form, only_service, IsQuery, IsNoQuery}
 use Rattle.api_replies.specs.declared.ask.Ask.{Ask}
 use Rattle.api_replies.specs.declared.meaning.Meaning.{Meaning}
 use Rattle.api_replies.specs.declared.meaning.Meaning.TheVariants.{Write, Render as Query}

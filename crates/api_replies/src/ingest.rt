@@ -2,16 +2,17 @@
 ghost use Rattle.std.specs.Prelude.{◌≡◌, [], ◌∷◌, codes, IfOk, IfSome, IsTrue, MatchResult, option_map};
 ghost use Rattle.profile_model.specs.LabelSets.{IsLabelValue};
 ghost use Rattle.profile_model.specs.ReadKinds.{parts_in};
-ghost use Rattle.api_replies.specs.Forms.{is_service, only_service, pairs_of};
+ghost use Rattle.query_parameters.specs.Parameters.{pairs_of};
+ghost use Rattle.api_replies.specs.Forms.{is_service, only_service};
 ghost use Rattle.api_replies.specs.Meanings.{IsFoldedPush, IsPushRefused, SaysPush};
 
-use crate::parameters::Parameter;
 use crate::refusal::Refusal;
 use folded_reader::{FoldedFault, read_folded};
 use http_session::Request;
 use profile_model::{
     LabelSet, MAX_VALUE_BYTES, Name, Profile, ProfileType, Profiles, Push, StackSums, Tenant,
 };
+use query_parameters::Parameter;
 use std::alloc::{AllocError, Global};
 
 /// The push of a request to ingest, whose one parameter names a service.

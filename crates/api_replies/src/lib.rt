@@ -7,7 +7,6 @@ mod config;
 mod fault_body;
 mod ingest;
 mod meaning;
-mod parameters;
 mod refusal;
 mod render;
 #[cfg(test)]

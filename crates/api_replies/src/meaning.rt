@@ -1,15 +1,16 @@
 // What a request means, or the first refusal of it.
 ghost use Rattle.std.specs.Prelude.{◌≡◌, MatchResult, option_map};
-ghost use Rattle.api_replies.specs.Forms.{folded_query, has_unbuilt_form, is_coded, is_folded_format, kind_text, pair_of, pairs_of, route_of, tenant_of};
+ghost use Rattle.api_replies.specs.Forms.{folded_query, has_unbuilt_form, is_coded, is_folded_format, kind_text, route_of, tenant_of};
+ghost use Rattle.query_parameters.specs.Parameters.{pair_of, pairs_of};
 ghost use Rattle.api_replies.specs.Meanings.{IsAskRefused, IsRefused, Means, SaysAsk};
 
 use crate::ask::Ask;
 use crate::config::Config;
 use crate::ingest::read_ingest;
-use crate::parameters::{Parameter, read_parameters};
 use crate::refusal::Refusal;
 use http_session::{Method, Request};
 use profile_model::{ProfileType, Push, Tenant, TypeFault, wrong_tenant_byte};
+use query_parameters::{Parameter, read_parameters};
 use std::alloc::Global;
 
 /// What is to be done.

@@ -1,0 +1,5 @@
+pub mod DigitLemmas
+pub mod ParameterLemmas
+pub mod ScanLemmas
+pub mod SplitNameLemmas
+pub mod SplitLemmas

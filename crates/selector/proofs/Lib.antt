@@ -1,0 +1,11 @@
+pub mod BreakLemmas
+pub mod ByteLemmas
+pub mod RunLemmas
+pub mod TokenLemmas
+pub mod WrittenLemmas
+pub mod PatternLemmas
+pub mod MatcherLemmas
+pub mod InsideLemmas
+pub mod SelectorLemmas
+pub mod SeenLemmas
+pub mod MeaningLemmas

@@ -1,0 +1,12 @@
+pub mod Matching
+pub mod Grammar
+pub mod Patterns
+pub mod Stored
+pub mod Matchers
+pub mod Read
+pub mod Building
+pub mod Faults
+pub mod Runs
+pub mod Rests
+pub mod Placed
+pub mod Laws

@@ -1,0 +1,31 @@
+-- What a stored pattern and a stored matcher stand for.
+use Rattle.std.specs.Prelude.{◌≡◌, ◌<◌, ℕ, List, is_some, slice_index}
+use Rattle.regex.specs.Patterns.{default_config, find_str}
+use Rattle.regex.specs.Strings.{regex_source, regex_config, regex_pattern, IsReadFromSource}
+use Rattle.regex.specs.declared.string.regex.Regex.{Regex}
+use Rattle.selector.specs.Patterns.{finds, IsReadable, IsUnreadable, IsBadSyntax, MayBeTooBig}
+use Rattle.selector.specs.declared.pattern.PatternFault.{PatternFault}
+use Rattle.selector.specs.declared.pattern.PatternFault.TheVariants.{Syntax, TooBig, Memory}
+
+-- the regex is what regex's grammar reads in the text
+pub record IsBuiltFrom (text : List ℕ) (regex : Regex) : Type 0 where
+  pub source : regex_source regex ≡ text
+  pub config : regex_config regex ≡ default_config
+  pub reads : IsReadFromSource regex
+
+-- the regex is found in a value of bytes exactly where the pattern is, between its anchors
+abbrev pub IsFoundAs : List ℕ → Regex → Type 0
+IsFoundAs pattern regex =
+    (value : List ℕ) → ((k : ℕ) → slice_index value k < 256) → is_some (find_str (regex_pattern regex) value 0) ≡ finds pattern value
+
+-- what a refusal of a text says of it
+abbrev pub IsRefusalOf : List ℕ → PatternFault → Type 0
+IsRefusalOf text Syntax = IsUnreadable text
+IsRefusalOf text TooBig = IsReadable text
+IsRefusalOf text Memory = Unit {0}
+
+-- what a refusal of a pattern says of it
+abbrev pub IsRefused : List ℕ → PatternFault → Type 0
+IsRefused pattern Syntax = IsBadSyntax pattern
+IsRefused pattern TooBig = MayBeTooBig pattern
+IsRefused pattern Memory = Unit {0}

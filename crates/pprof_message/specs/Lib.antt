@@ -1,0 +1,11 @@
+pub mod Pprof
+pub mod Fields
+pub mod Messages
+pub mod Broken
+pub mod Read
+pub mod Runs
+pub mod Gathered
+pub mod Numbers
+pub mod Readers
+pub mod Kept
+pub mod Packed

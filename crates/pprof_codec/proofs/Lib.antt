@@ -1,0 +1,15 @@
+pub mod FaultLemmas
+pub mod IdLemmas
+pub mod TableLemmas
+pub mod WeightLemmas
+pub mod StackLemmas
+pub mod MemberLemmas
+pub mod JudgedLemmas
+pub mod ReadLemmas
+pub mod WorkedRows
+pub mod LineLemmas
+pub mod DepthLemmas
+pub mod TotalLemmas
+pub mod RoomLemmas
+pub mod BuildLemmas
+pub mod ProfileLemmas

@@ -1,0 +1,143 @@
+-- What each profile weighs, and all of them.
+use Rattle.std.proofs.Common.{◌≡◌, ⊎_elim, ℕ, ◌+◌, ◌-◌, ◌^◌, ◌<◌, ◌≤◌, min, List, [], ◌∷◌, ◌++◌, length, get_or, take, drop, Bool, true, false, Some, Err, refl, sym, ap, ◌∙◌, arith}
+use Rattle.std.specs.Prelude.{◌||◌, map, nat_lt, sum_by}
+use Rattle.std.specs.List.{enumerate_from}
+use Rattle.std.proofs.Math.Nat.{min-le_left, min-eq_left, le-min}
+use Rattle.std.proofs.lemmas.Bool.{cases_lt, lt-ltb, le-ltb}
+use Rattle.std.proofs.lemmas.List.{take_all, take-append-drop, length-map, map-append}
+use Rattle.std.proofs.lemmas.List.FromFn.{length-enumerate_from, get_or-enumerate_from}
+use Rattle.std.proofs.lemmas.List.Sums.{sum_by-cons, sum_by-append}
+use Rattle.profile_model.specs.LabelSets.{Label}
+use Rattle.profile_model.specs.Sums as sums
+use Rattle.profile_model.specs.Weights.{label_weight}
+use Rattle.profile_model.specs.declared.profile.Profile.{Profile}
+use Rattle.pprof_message.specs.declared.lists.ValueType.{ValueType}
+use Rattle.pprof_message.specs.Pprof.{Pprof}
+use Rattle.pprof_codec.specs.declared.base.Base.{Base}
+use Rattle.pprof_codec.specs.declared.fault.PprofFault.{PprofFault}
+use Rattle.pprof_codec.specs.declared.fault.PprofFault.TheVariants.{Memory, Weight}
+use Rattle.pprof_codec.specs.Profiles.{Held, held_of, held_weight, parts_of, profile_of, profiles_of, samples_of, stacks_weight, time_of, weight_of}
+use Rattle.pprof_codec.specs.Checks.{fault_if, first_of, weight_faults}
+use Rattle.pprof_codec.specs.Tables.{Judges, TakesRoom}
+use Rattle.pprof_codec.proofs.FaultLemmas.{only-found, shown-push}
+
+-- ---- one profile
+
+-- without its stacks
+abbrev pub bare_weight : List Label → List (List ℕ) → ℕ
+bare_weight labels parts = 128 + sum_by label_weight labels + sum_by length parts
+
+pub held-weight : (base : Base) (pprof : Pprof) (number : ℕ) (kind : ValueType) (labels : List Label) (parts : List (List ℕ))
+    → labels ≡ base.labels → parts ≡ parts_of base pprof kind
+    → held_weight (profile_of base pprof number kind) ≡ bare_weight labels parts + stacks_weight (sums.sums_of (samples_of pprof number))
+unfolding profile_of
+held-weight base pprof number kind labels parts labelled typed =
+    (λ k. 128 + sum_by label_weight (sym labelled k) + sum_by length (sym typed k) + stacks_weight (sums.sums_of (samples_of pprof number)))
+
+pub held-built : (base : Base) (pprof : Pprof) (number : ℕ) (kind : ValueType) (labels : List Label) (parts : List (List ℕ)) (time_ms : ℕ) (values : List sums.Sample)
+    → labels ≡ base.labels → parts ≡ parts_of base pprof kind → time_ms ≡ time_of base.fallback_ms pprof.time_nanos → values ≡ sums.sums_of (samples_of pprof number)
+    → record { labels = labels; parts = parts; time_ms = time_ms; values = values } ≡ profile_of base pprof number kind
+unfolding profile_of
+held-built base pprof number kind labels parts time_ms values labelled typed timed summed =
+    (λ k. record { labels = labelled k; parts = typed k; time_ms = timed k; values = summed k })
+
+pub bare-weighed : (weight : ℕ) (labels : List Label) (parts : List (List ℕ)) (values : List sums.Sample) → values ≡ []
+    → weight ≡ min (bare_weight labels parts + stacks_weight values) (2 ^ 64 - 1) → weight ≡ min (bare_weight labels parts) (2 ^ 64 - 1)
+bare-weighed weight labels parts values none is =
+    let e : bare_weight labels parts + 0 ≡ bare_weight labels parts = omega arith in
+    is ∙ ap (λ known. min (bare_weight labels parts + stacks_weight known) (2 ^ 64 - 1)) none ∙ ap (λ n. min n (2 ^ 64 - 1)) e
+
+pub bare-most : (weight bare : ℕ) → weight ≡ min bare (2 ^ 64 - 1) → weight ≤ bare
+bare-most weight bare is = let most = min-le_left bare (2 ^ 64 - 1) in omega arith
+
+-- what had room was weighed whole
+pub bare-taken : (weight bare : ℕ) → weight ≡ min bare (2 ^ 64 - 1) → weight ≤ 268435456 → weight ≡ bare
+bare-taken weight bare is few =
+    ⊎_elim (λ less. is ∙ min-eq_left (omega arith)) (λ most. let big : 2 ^ 64 - 1 ≤ min bare (2 ^ 64 - 1) = le-min {k = 2 ^ 64 - 1} {a = bare} {b = 2 ^ 64 - 1} most (omega arith) in absurd (omega arith)) (cases_lt bare (2 ^ 64 - 1))
+
+-- ---- all profiles
+
+pub profiles-more : (base : Base) (pprof : Pprof) (kinds : List ValueType) (built : List Held) (one : Held) (number : ℕ) (d : ValueType) → kinds ≡ pprof.sample_types
+    → number < length kinds → built ≡ take number (profiles_of base pprof) → one ≡ profile_of base pprof number (get_or kinds number d)
+    → built ++ one ∷ [] ≡ take (number + 1) (profiles_of base pprof)
+unfolding profiles_of
+profiles-more base pprof kinds built one number d own short before is =
+    let size = ap (length {A = ValueType}) own in
+    let count = length-enumerate_from 0 pprof.sample_types in
+    let e : 0 + number ≡ number = omega arith in
+    let read : get_or (enumerate_from 0 pprof.sample_types) number (0, d) ≡ (number, get_or pprof.sample_types number d) =
+    get_or-enumerate_from 0 pprof.sample_types number (0, d) (omega arith) ∙ ap (λ n. (n, get_or pprof.sample_types number d)) e in
+    shown-push (λ (each : ℕ × ValueType). profile_of base pprof each.0 each.1) built one (enumerate_from 0 pprof.sample_types) number (0, d) (omega arith) before
+    (is ∙ ap (λ (all : List ValueType). profile_of base pprof number (get_or all number d)) own
+    ∙ sym (ap (λ (each : ℕ × ValueType). profile_of base pprof each.0 each.1) read))
+
+pub held-push : (profiles after : List Profile) (profile : Profile) → after ≡ profiles ++ profile ∷ [] → map held_of after ≡ map held_of profiles ++ held_of profile ∷ []
+held-push profiles after profile is = ap (map held_of) is ∙ map-append held_of profiles (profile ∷ [])
+
+pub profiles-all : (base : Base) (pprof : Pprof) (number : ℕ) → length pprof.sample_types ≤ number → take number (profiles_of base pprof) ≡ profiles_of base pprof
+unfolding profiles_of
+profiles-all base pprof number all =
+    let count = length-enumerate_from 0 pprof.sample_types in
+    let size = length-map (enumerate_from 0 pprof.sample_types) (λ (each : ℕ × ValueType). profile_of base pprof each.0 each.1) in
+    take_all number (map (λ (each : ℕ × ValueType). profile_of base pprof each.0 each.1) (enumerate_from 0 pprof.sample_types)) (omega arith)
+
+pub weight-push : (all : List Held) (one : Held) → sum_by held_weight (all ++ one ∷ []) ≡ sum_by held_weight all + held_weight one
+weight-push all one =
+    let parts = sum_by-append held_weight all (one ∷ []) in
+    let last = sum_by-cons held_weight one [] in omega arith
+
+pub weight-part : (all : List Held) (number : ℕ) → sum_by held_weight (take number all) ≤ sum_by held_weight all
+weight-part all number =
+    let whole = ap (sum_by held_weight) (take-append-drop number all) in
+    let parts = sum_by-append held_weight (take number all) (drop number all) in omega arith
+
+-- ---- the fault of a weight
+
+or-true : (b : Bool) → (b || true) ≡ true
+or-true true = refl
+or-true false = refl
+
+pub too-many : (base : Base) (pprof : Pprof) → 4096 < length pprof.sample_types → first_of (weight_faults base pprof) ≡ Some Weight
+unfolding weight_faults
+too-many base pprof many =
+    only-found _ Weight (ap (λ b. b || nat_lt 268435456 (weight_of (profiles_of base pprof))) (lt-ltb 4096 (length pprof.sample_types) many))
+
+pub too-heavy : (base : Base) (pprof : Pprof) → 268435456 < sum_by held_weight (profiles_of base pprof) → first_of (weight_faults base pprof) ≡ Some Weight
+unfolding weight_faults weight_of
+too-heavy base pprof heavy =
+    only-found _ Weight (ap (λ b. nat_lt 4096 (length pprof.sample_types) || b) (lt-ltb 268435456 (sum_by held_weight (profiles_of base pprof)) heavy)
+    ∙ or-true (nat_lt 4096 (length pprof.sample_types)))
+
+pub light-enough : (base : Base) (pprof : Pprof) → length pprof.sample_types ≤ 4096 → sum_by held_weight (profiles_of base pprof) ≤ 268435456 → weight_faults base pprof ≡ []
+unfolding weight_faults weight_of
+light-enough base pprof few light =
+    (λ k. fault_if (le-ltb 4096 (length pprof.sample_types) few k || le-ltb 268435456 (sum_by held_weight (profiles_of base pprof)) light k) Weight)
+
+-- where a profile has no room, all are too heavy
+pub no-room : {T U : Type 0} (P : T → Type 0) (Q : U → Type 0) (fault : PprofFault) (before after weight : ℕ) (faults : List PprofFault)
+    → (before < weight → first_of faults ≡ Some Weight) → TakesRoom {T = T} (Err fault) before after weight P → Judges {T = U} (Err fault) faults Q
+no-room P Q Memory before after weight faults along h = tt
+no-room P Q Weight before after weight faults along h = along h
+no-room P Q fault before after weight faults along h = absurd h
+
+module _ (base : Base) (pprof : Pprof) (kinds : List ValueType) (number : ℕ) (d : ValueType) (room after : ℕ) where
+  pub room-left : kinds ≡ pprof.sample_types → number < length kinds → room + sum_by held_weight (take number (profiles_of base pprof)) ≡ 268435456
+      → room ≡ after + held_weight (profile_of base pprof number (get_or kinds number d))
+      → after + sum_by held_weight (take (number + 1) (profiles_of base pprof)) ≡ 268435456
+  room-left own short before taken =
+      let next = profiles-more base pprof kinds (take number (profiles_of base pprof)) (profile_of base pprof number (get_or kinds number d)) number d own short refl refl in
+      let weighed = ap (sum_by held_weight) next in
+      let more = weight-push (take number (profiles_of base pprof)) (profile_of base pprof number (get_or kinds number d)) in
+      omega arith
+
+  pub profile-no_room : {T U : Type 0} (P : T → Type 0) (Q : U → Type 0) (fault : PprofFault)
+      → kinds ≡ pprof.sample_types → number < length kinds → room + sum_by held_weight (take number (profiles_of base pprof)) ≡ 268435456
+      → TakesRoom {T = T} (Err fault) room after (held_weight (profile_of base pprof number (get_or kinds number d))) P
+      → Judges {T = U} (Err fault) (weight_faults base pprof) Q
+  profile-no_room P Q fault own short before refused =
+      let next = profiles-more base pprof kinds (take number (profiles_of base pprof)) (profile_of base pprof number (get_or kinds number d)) number d own short refl refl in
+      let weighed = ap (sum_by held_weight) next in
+      let more = weight-push (take number (profiles_of base pprof)) (profile_of base pprof number (get_or kinds number d)) in
+      let most = weight-part (profiles_of base pprof) (number + 1) in
+      no-room P Q fault room after (held_weight (profile_of base pprof number (get_or kinds number d))) (weight_faults base pprof)
+      (λ less. too-heavy base pprof (omega arith)) refused

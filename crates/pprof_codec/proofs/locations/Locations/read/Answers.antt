@@ -1,0 +1,43 @@
+use Rattle.std.proofs.Common.{refl, ◌∙◌, arith}
+use Rattle.pprof_message.specs.Pprof.{Location}
+use Rattle.pprof_codec.specs.Frames.{location_frames}
+use Rattle.pprof_codec.specs.Checks.{faults_of_location, location_faults}
+use Rattle.pprof_codec.proofs.FaultLemmas.{judged-err, read-push, shown-all, each-all}
+use Rattle.pprof_codec.proofs.MemberLemmas.{own_faults, member-read_first, member-read_kept, location-new_id}
+use Rattle.pprof_codec.proofs.locations.Locations.read.Goals as goal
+
+pub push-requires : goal.push-requires
+push-requires c =
+    location-new_id c.args.message.now c.loop-number.ids c.loop-number.number _ c.location_fault.result
+    (c.location_fault.ensures c.args.message.now c.requires.functions) c.in_default.is
+
+pub returns-in-Some : goal.returns-in-Some
+unfolding location_faults
+returns-in-Some c =
+    judged-err _ (location_faults c.args.message.now) c.in-Some.fault
+    (member-read_first (λ (l : Location). l.id) (faults_of_location c.args.message.now) c.args.message.now.locations c.loop-number.ids c.loop-number.number _ c.location_fault.result c.in-Some.fault
+    c.location-location.ensures c.loop-number.invariant.known c.loop-number.invariant.judged (c.location_fault.ensures c.args.message.now c.requires.functions) c.in-Some.is)
+
+pub loop-number-preserved : goal.loop-number-preserved
+loop-number-preserved c = record {
+  known =
+      c.in_ok-push.ensures
+      ∙ read-push (λ (l : Location). l.id) c.loop-number.ids _ c.args.message.now.locations c.loop-number.number _ c.location-location.ensures c.loop-number.invariant.known refl;
+  framed =
+      c.in_ok-push-2.ensures.items
+      ∙ read-push (location_frames c.args.message.now) c.loop-number.frames.items _ c.args.message.now.locations c.loop-number.number _ c.location-location.ensures
+      c.loop-number.invariant.framed (c.in_ok-frames_of.ensures c.args.message.now c.requires.functions);
+  judged =
+      member-read_kept (λ (l : Location). l.id) (faults_of_location c.args.message.now) c.args.message.now.locations c.loop-number.ids c.loop-number.number _ c.location_fault.result
+      c.location-location.ensures c.loop-number.invariant.known c.loop-number.invariant.judged (c.location_fault.ensures c.args.message.now c.requires.functions) c.in_default.is;
+}
+
+pub returns : goal.returns
+unfolding location_faults
+returns c = (
+  each-all (own_faults (λ (l : Location). l.id) (faults_of_location c.args.message.now) c.args.message.now.locations) c.args.message.now.locations c.loop-number.number (omega arith) c.loop-number.invariant.judged,
+  record {
+    known = c.loop-number.invariant.known ∙ shown-all (λ (l : Location). l.id) c.args.message.now.locations c.loop-number.number (omega arith);
+    framed = c.loop-number.invariant.framed ∙ shown-all (location_frames c.args.message.now) c.args.message.now.locations c.loop-number.number (omega arith);
+  },
+)

@@ -1,0 +1,20 @@
+//! Profiles from the bytes of a pprof.
+#![tactic(auto)]
+
+mod base;
+mod build;
+mod fault;
+mod functions;
+mod ids;
+mod judged;
+mod locations;
+mod reader;
+mod samples;
+#[cfg(test)]
+mod tests;
+mod texts;
+mod totals;
+
+pub use base::Base;
+pub use fault::{Member, PprofFault};
+pub use reader::read_pprof;

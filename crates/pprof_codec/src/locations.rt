@@ -1,0 +1,170 @@
+// The locations of a profile, and the frames that each stands for.
+ghost use Rattle.std.specs.Prelude.{◌≡◌, ◌==◌, ◌||◌, [], ◌∷◌, length, map, is_some, IfOk};
+ghost use Rattle.std.specs.List.{list_all};
+ghost use Rattle.std.specs.Option.{option_copied};
+ghost use Rattle.pprof_message.specs.Gathered.{location_in};
+ghost use Rattle.pprof_message.specs.Pprof.{Pprof};
+ghost use Rattle.pprof_codec.specs.Frames.{address_frame, line_frame, location_frames, unknown_frame};
+ghost use Rattle.pprof_codec.specs.Checks.{first_of, faults_of_location, location_faults};
+ghost use Rattle.pprof_codec.specs.Tables.{AreFunctions, AreLocations, Judges, found_in};
+
+use crate::functions::Functions;
+use crate::ids::Ids;
+use crate::{Member, PprofFault};
+use pprof_message::{LocationRef, PprofMessage};
+use profile_model::Name;
+use std::alloc::{AllocError, Global};
+use std::marker::Model;
+
+// The frames of one location, the innermost first.
+#[derive(Drop)]
+pub(crate) struct Frames {
+    names: Vec<Name>,
+}
+
+impl Model for Frames {
+    ghost use Rattle.std.specs.Prelude.{List, ℕ};
+
+    ghost Value = { List (List ℕ) };
+
+    ghost view = { λ f. f.names.items };
+}
+
+impl Frames {
+    pub(crate) fn as_slice(&self) -> &[Name]
+        ensures { result.now ≡ self.now }
+    {
+        &self.names
+    }
+
+    pub(crate) fn len(&self) -> usize
+        ensures { result ≡ length self.now }
+    {
+        self.names.len()
+    }
+}
+
+// Each location's frames, found by the location's id.
+#[derive(Drop)]
+pub(crate) struct Locations {
+    ids: Ids,
+    frames: Vec<Frames>,
+    ghost even: { length frames.items ≡ length ids },
+}
+
+impl Locations {
+    // The locations, in their order.
+    pub(crate) fn read(
+        alloc: Global,
+        message: &PprofMessage,
+        unknown: &Name,
+        functions: &Functions,
+    ) -> Result<Locations, PprofFault>
+        requires name { unknown.now ≡ unknown_frame }
+        requires functions { AreFunctions message.now functions.now.ids functions.now.frames.items }
+        ensures { Judges result (location_faults message.now) (λ table. AreLocations message.now table.ids table.frames.items) }
+    {
+        let mut ids = Ids::new(alloc);
+        let mut frames = Vec::with_capacity(alloc, message.locations())?;
+        for number in 0..message.locations() {
+            let location = message.location(number);
+            if let Some(fault) = location_fault(functions, &ids, number as u64, &location) {
+                return Err(fault);
+            }
+            ids.push(location.id)?;
+            frames.push(frames_of(alloc, unknown, functions, &location)?)?;
+        }
+        Ok(Locations { ids, frames })
+    }
+
+    // The frames of the location with this id.
+    pub(crate) fn frames(&self, id: u64) -> Option<&Frames>
+        ensures { option_copied result ≡ found_in self.now.ids self.now.frames.items id }
+    {
+        let number = self.ids.number(id)?;
+        Some(&self.frames[number])
+    }
+
+    // Whether there is a location with this id.
+    pub(crate) fn has(&self, id: u64) -> bool
+        ensures { result ≡ is_some (found_in self.now.ids self.now.frames.items id) }
+    {
+        self.frames(id).is_some()
+    }
+}
+
+// The first fault of a location, where those before it have these ids.
+fn location_fault(
+    functions: &Functions,
+    ids: &Ids,
+    number: u64,
+    location: &LocationRef,
+) -> Option<PprofFault>
+    ensures { (pprof : Pprof) → AreFunctions pprof functions.now.ids functions.now.frames.items →
+        result ≡ first_of (faults_of_location pprof ids.now number (location_in location.now)) }
+{
+    let member = Member::Location;
+    if location.id == 0 {
+        return Some(PprofFault::ZeroId { member, number });
+    }
+    if ids.number(location.id).is_some() {
+        return Some(PprofFault::RepeatedId { member, number });
+    }
+    if !has_functions(functions, location.lines) {
+        return Some(PprofFault::NoSuchFunction { location: number });
+    }
+    None
+}
+
+// Whether each line names a function, or 0 for none.
+fn has_functions(functions: &Functions, ids: &[u64]) -> bool
+    ensures { result ≡ list_all (λ id. (id == 0) || is_some (found_in functions.now.ids functions.now.frames.items id)) ids.now }
+{
+    ids.iter().all(|id| *id == 0 || functions.has(*id))
+}
+
+// The frames of a location that has no fault.
+fn frames_of(
+    alloc: Global,
+    unknown: &Name,
+    functions: &Functions,
+    location: &LocationRef,
+) -> Result<Frames, AllocError>
+    requires { unknown.now ≡ unknown_frame }
+    ensures { (pprof : Pprof) → AreFunctions pprof functions.now.ids functions.now.frames.items →
+        IfOk result (λ frames. frames ≡ location_frames pprof (location_in location.now)) }
+{
+    if location.lines.is_empty() {
+        return frames_of_address(alloc, location.address);
+    }
+    let mut names = Vec::with_capacity(alloc, location.lines.len())?;
+    for id in location.lines {
+        let frame = line_frame(unknown, functions, *id);
+        names.push(frame.clone()?)?;
+    }
+    Ok(Frames { names })
+}
+
+fn frames_of_address(alloc: Global, address: u64) -> Result<Frames, AllocError>
+    ensures { IfOk result (λ frames. frames ≡ address_frame address ∷ []) }
+{
+    let text = format!(in alloc; "0x{address:x}")?;
+    let mut names = Vec::with_capacity(alloc, 1)?;
+    names.push(Name::from_text(alloc, &text)?)?;
+    Ok(Frames { names })
+}
+
+// The frame of the line's function.
+fn line_frame<'a>(unknown: &'a Name, functions: &'a Functions, id: u64) -> &'a Name
+    requires { unknown.now ≡ unknown_frame }
+    ensures { (pprof : Pprof) → AreFunctions pprof functions.now.ids functions.now.frames.items →
+        result.now ≡ line_frame pprof id }
+{
+    if id == 0 {
+        return unknown;
+    }
+    match functions.frame(id) {
+        Some(frame) => frame,
+        None => unknown,
+    }
+}

@@ -10,7 +10,7 @@ use Rattle.profile_model.specs.declared.push.Push.{Push}
 use Rattle.api_replies.specs.declared.verdict.FirstVerdict.{FirstVerdict}
 use Rattle.api_replies.specs.declared.verdict.FirstVerdict.TheVariants.{Kept, OverLimit, Memory}
 use Rattle.pyro_server.specs.Settled.{IsSettled}
-use Rattle.pyro_server.specs.Served.{IsExchange}
+use Rattle.pyro_server.specs.Served.{Exchange, IsExchange, InTurn}
 use Rattle.pyro_server.specs.ServedLaws.{HistoryGrows, KeepsItsPlace}
 
 -- a list that stays has nothing more at its end
@@ -23,28 +23,27 @@ settled_grows history next push (Kept front) settled = (push ∷ [], settled.2)
 settled_grows history next push (OverLimit kept adds limit front) settled = stays history next settled.5
 settled_grows history next push Memory settled = stays history next settled
 
-exchange_grows : (single : Bool) (asked : Asked) (history next : List Push) (reply : Reply) → IsExchange single asked history reply next
+pub exchange_grows : (single : Bool) (asked : Asked) (history next : List Push) (reply : Reply) → IsExchange single asked history reply next
     → (later : List Push) × (next ≡ history ++ later)
 exchange_grows single asked history next reply (inl (is, same)) = stays history next same
 exchange_grows single asked history next reply (inr (push, verdict, write, settled, told)) = settled_grows history next push verdict settled
 
 -- one history grows to the next, and that to the last
-both : (history next final : List Push) → (later : List Push) × (next ≡ history ++ later) → (later : List Push) × (final ≡ next ++ later)
+pub both : (history next final : List Push) → (later : List Push) × (next ≡ history ++ later) → (later : List Push) × (final ≡ next ++ later)
     → (later : List Push) × (final ≡ history ++ later)
 both history next final (one, is) (two, ends) = (one ++ two, ends ∙ ap (λ front. front ++ two) is ∙ append_assoc history one two)
 
+pub in_turn_grows : (single : Bool) (history : List Push) (exchanges : List Exchange) (final : List Push) → InTurn single history exchanges final
+    → (later : List Push) × (final ≡ history ++ later)
+in_turn_grows single history [] final same = stays history final same
+in_turn_grows single history (one ∷ more) final (exchange, turn) =
+    both history one.next final (exchange_grows single one.answer.asked history one.next one.answer.reply exchange) (in_turn_grows single one.next more final turn)
+
 pub history_grows : HistoryGrows
-history_grows single number moment bytes history [] gave final status (same, ending) = stays history final same
-history_grows single number moment bytes history (one ∷ more) gave final status (rest, whole, exchange, inl (later, given, goes_on, serves)) =
-    both history one.next final (exchange_grows single one.asked history one.next one.reply exchange)
-    (history_grows single (number + 1) moment rest one.next more later final status serves)
-history_grows single number moment bytes history (one ∷ more) gave final status (rest, whole, exchange, inr (inl (given, closes, none, same, told))) =
-    both history one.next final (exchange_grows single one.asked history one.next one.reply exchange) (stays one.next final same)
-history_grows single number moment bytes history (one ∷ more) gave final status (rest, whole, exchange, inr (inr (front, none, same, told))) =
-    both history one.next final (exchange_grows single one.asked history one.next one.reply exchange) (stays one.next final same)
+history_grows single number moment bytes history exchanges gave final status (given, turn) = in_turn_grows single history exchanges final turn
 
 -- a push is one of its tenant's
-own : (push : Push) → pushes_of (push ∷ []) push.tenant ≡ push ∷ []
+pub own : (push : Push) → pushes_of (push ∷ []) push.tenant ≡ push ∷ []
 own push = let same : pointwise nat_eq push.tenant push.tenant ≡ true = nat_list_eq_equiv.refl push.tenant in rw same refl
 
 pub keeps_its_place : KeepsItsPlace

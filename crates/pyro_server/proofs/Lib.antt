@@ -1,3 +1,6 @@
 pub mod Serving
 pub mod Sessions
 pub mod Growing
+pub mod Histories
+pub mod ServingAt
+pub mod ServedRows

@@ -12,7 +12,8 @@ use Rattle.http_session.specs.declared.reader.NextRequest.TheVariants as answer
 use Rattle.http_session.specs.declared.reply.Reply.{Reply}
 use Rattle.profile_model.specs.declared.push.Push.{Push}
 use Rattle.api_replies.specs.Replies.{last_reply, reply_for_memory}
-use Rattle.pyro_server.specs.Served.{Exchange, IsExchange, IsFrontOf, Serves, EndsWith, bytes_of_last}
+use Rattle.pyro_server.specs.Given.{EndsWith, bytes_of_last}
+use Rattle.pyro_server.specs.Served.{Exchange, IsExchange}
 use Rattle.pyro_server.specs.Steps.{GaveFront, GivesReply, GivesLast, ServesStep}
 use Rattle.pyro_server.specs.declared.session.Step.{Step}
 use Rattle.pyro_server.specs.declared.session.Step.TheVariants.{Answered, Ended}
@@ -37,27 +38,27 @@ module _ (single : Bool) (old new : Waiting) (history next : List Push) where
     sym closing,
   )
   answered_step asked reply (Ended status) before between now number exchange (piece, took, whole) (failed, (front, rest, cut, gave)) =
-      let one : Exchange = record { asked = asked; reply = reply; next = next } in
+      let one : Exchange = record { answer = record { asked = asked; reply = reply }; next = next } in
       let P : ℕ → Type 0 = λ n. IsWhole n before.moment (old.held ++ piece) asked new.held in (
         piece,
         front,
         one ∷ [],
         gave.taken ∙ took.taken,
         gave.given ∙ ap (λ so_far. so_far ++ front) took.given,
-        (new.held, subst P number whole, exchange, inr (inr ((rest, cut), refl, refl, failed))),
+        ((new.held, subst P number whole, inr (inr ((rest, cut), refl, failed))), (exchange, refl)),
       )
 
   -- the input ended between requests
   pub ended_step : (before now : Told) → next ≡ history → AnswerStep answer.End old new before now
       → ServesStep single old new history next (Ended Done) before now
   ended_step before now same (piece, took, (between, none)) =
-      (piece, [], [], took.taken, took.given ∙ sym (append-nil before.given), (same, (between, refl)))
+      (piece, [], [], took.taken, took.given ∙ sym (append-nil before.given), ((between, refl), same))
 
   -- the link failed before a request was whole
   pub failed_step : (count : ℕ) (before now : Told) → next ≡ history → AnswerStep (answer.LinkFault count) old new before now
       → ServesStep single old new history next (Ended StreamFault) before now
   failed_step count before now same (piece, took, said) =
-      (piece, [], [], took.taken, took.given ∙ sym (append-nil before.given), (same, inl refl))
+      (piece, [], [], took.taken, took.given ∙ sym (append-nil before.given), (inl refl, same))
 
   -- the bytes are no request, and the last reply was given
   pub refused_step : (bad : BadRequest) (status : Status) (before between now : Told) → next ≡ history
@@ -71,7 +72,7 @@ module _ (single : Bool) (old new : Waiting) (history next : List Push) where
         [],
         gave.taken ∙ took.taken,
         gave.given ∙ ap (λ so_far. so_far ++ bytes) took.given,
-        (same, subst P (sym whole) (bad, is_bad, ap (λ m. bytes_of_last (last_reply bad m)) took.moment)),
+        (subst P (sym whole) (bad, is_bad, ap (λ m. bytes_of_last (last_reply bad m)) took.moment), same),
       )
   refused_step bad status before between now same (piece, took, (is_bad, cut_off)) (inr (failed, (front, rest, cut, gave))) =
       let P : Status → Type 0 = λ s. EndsWith before.moment (old.held ++ piece) front s in (
@@ -80,7 +81,7 @@ module _ (single : Bool) (old new : Waiting) (history next : List Push) where
         [],
         gave.taken ∙ took.taken,
         gave.given ∙ ap (λ so_far. so_far ++ front) took.given,
-        (same, subst P (sym failed) (inr (inl (bad, is_bad, (rest, ap (λ m. bytes_of_last (last_reply bad m)) (sym took.moment) ∙ cut))))),
+        (subst P (sym failed) (inr (inl (bad, is_bad, (rest, ap (λ m. bytes_of_last (last_reply bad m)) (sym took.moment) ∙ cut)))), same),
       )
 
   -- memory ran out while a request was read, and the last reply was given
@@ -95,7 +96,7 @@ module _ (single : Bool) (old new : Waiting) (history next : List Push) where
         [],
         gave.taken ∙ took.taken,
         gave.given ∙ ap (λ so_far. so_far ++ bytes) took.given,
-        (same, subst P (sym whole) (ap (λ m. bytes_of_reply (reply_for_memory m true)) took.moment)),
+        (subst P (sym whole) (ap (λ m. bytes_of_reply (reply_for_memory m true)) took.moment), same),
       )
   starved_step status before between now same (piece, took, said) (inr (failed, (front, rest, cut, gave))) =
       let P : Status → Type 0 = λ s. EndsWith before.moment (old.held ++ piece) front s in (
@@ -104,5 +105,5 @@ module _ (single : Bool) (old new : Waiting) (history next : List Push) where
         [],
         gave.taken ∙ took.taken,
         gave.given ∙ ap (λ so_far. so_far ++ front) took.given,
-        (same, subst P (sym failed) (inr (inr (rest, ap (λ m. bytes_of_reply (reply_for_memory m true)) (sym took.moment) ∙ cut)))),
+        (subst P (sym failed) (inr (inr (rest, ap (λ m. bytes_of_reply (reply_for_memory m true)) (sym took.moment) ∙ cut))), same),
       )

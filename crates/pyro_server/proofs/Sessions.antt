@@ -8,7 +8,8 @@ use Rattle.http_session.specs.Takes.{IsWhole}
 use Rattle.http_session.specs.Waiting.{Waiting}
 use Rattle.http_session.proofs.TakesLemmas.{whole_stays}
 use Rattle.profile_model.specs.declared.push.Push.{Push}
-use Rattle.pyro_server.specs.Served.{Exchange, Serves, IsServed, status_after}
+use Rattle.pyro_server.specs.Given.{status_after}
+use Rattle.pyro_server.specs.Served.{Exchange, Serves, IsServedInTurn}
 use Rattle.pyro_server.specs.Steps.{ServesStep}
 use Rattle.pyro_server.specs.declared.session.Step.TheVariants.{Answered, Ended}
 use Rattle.pyro_server.specs.declared.status.Status.{Status}
@@ -51,7 +52,7 @@ pub one_more : (single : Bool) (old new : Waiting) (history next : List Push) (b
     → SoFar single new next before now
 one_more single old new history next before between now number far (piece, asked, reply, taken, given, moment, whole, exchange, unclosed) =
     let bytes = bytes_of_reply reply in
-    let one : Exchange = record { asked = asked; reply = reply; next = next } in
+    let one : Exchange = record { answer = record { asked = asked; reply = reply }; next = next } in
     let M : ℕ → Type 0 = λ m. IsWhole new.given m (old.held ++ piece) asked new.held in
     let here : IsWhole new.given before.moment (old.held ++ piece) asked new.held = subst M far.moment whole in
     record {
@@ -64,10 +65,12 @@ one_more single old new history next before between now number far (piece, asked
           let N : ℕ → Type 0 = λ n. Serves single n before.moment (new.held ++ more) next exchanges later final status in
           let rest : Serves single (old.given + 1 + 1) before.moment (new.held ++ more) next exchanges later final status = subst N (ap (λ n. n + 1) number) serves in
           let step : Serves single (old.given + 1) before.moment (old.held ++ (piece ++ more)) history (one ∷ exchanges) (bytes ++ later) final status = (
-            new.held ++ more,
-            whole_with (old.given + 1) new.given before.moment old.held piece more new.held asked number here,
-            exchange,
-            inl (later, refl, unclosed, rest),
+            (
+              new.held ++ more,
+              whole_with (old.given + 1) new.given before.moment old.held piece more new.held asked number here,
+              inl (later, refl, unclosed, rest.0),
+            ),
+            (exchange, rest.1),
           ) in
           let done = far.completes (piece ++ more) (one ∷ exchanges) (bytes ++ later) final status step in
           (done.0, rw (append_assoc far.took piece more, append_assoc far.gave bytes later) done.1);
@@ -77,7 +80,7 @@ one_more single old new history next before between now number far (piece, asked
 ends : (single : Bool) (old : Waiting) (history next : List Push) (status : Status) (before between now : Told) (piece gave : List ℕ) (exchanges : List Exchange)
     → SoFar single old history before between → now.taken ≡ between.taken ++ piece → now.given ≡ between.given ++ gave
     → Serves single (old.given + 1) between.moment (old.held ++ piece) history exchanges gave next status
-    → IsServed single next status before now
+    → IsServedInTurn single next status before now
 ends single old history next status before between now piece gave exchanges far taken given serves =
     let M : ℕ → Type 0 = λ m. Serves single (old.given + 1) m (old.held ++ piece) history exchanges gave next status in
     let all = far.completes piece exchanges gave next status (subst M far.moment serves) in (
@@ -92,7 +95,7 @@ ends single old history next status before between now piece gave exchanges far 
 -- the connection ended
 pub ended : (single : Bool) (old new : Waiting) (history next : List Push) (status : Status) (before between now : Told)
     → SoFar single old history before between → ServesStep single old new history next (Ended status) between now
-    → IsServed single next status before now
+    → IsServedInTurn single next status before now
 ended single old new history next status before between now far (piece, gave, exchanges, taken, given, serves) =
     ends single old history next status before between now piece gave exchanges far taken given serves
 
@@ -100,14 +103,14 @@ ended single old new history next status before between now far (piece, gave, ex
 pub closed : (single : Bool) (old new : Waiting) (history next : List Push) (close : Bool) (status : Status) (before between now : Told) → new.given ≡ old.given + 1
     → status ≡ status_after (old.given + 1) → SoFar single old history before between → ServesStep single old new history next (Answered close) between now
     → ((asked : Asked) (moment : ℕ) (bytes rest : List ℕ) → IsWhole (old.given + 1) moment bytes asked rest → asked.close ≡ close → asked.close ≡ true)
-    → IsServed single next status before now
+    → IsServedInTurn single next status before now
 closed single old new history next close status before between now number last far (piece, asked, reply, taken, given, moment, whole, exchange, same) closes =
     let bytes = bytes_of_reply reply in
-    let one : Exchange = record { asked = asked; reply = reply; next = next } in
+    let one : Exchange = record { answer = record { asked = asked; reply = reply }; next = next } in
     let P : ℕ → Type 0 = λ n. IsWhole n between.moment (old.held ++ piece) asked new.held in
     let here : IsWhole (old.given + 1) between.moment (old.held ++ piece) asked new.held = subst P number whole in
     ends single old history next status before between now piece bytes (one ∷ []) far taken given
-    (new.held, here, exchange, inr (inl (refl, closes asked between.moment (old.held ++ piece) new.held here same, refl, refl, last)))
+    ((new.held, here, inr (inl (refl, closes asked between.moment (old.held ++ piece) new.held here same, refl, last))), (exchange, refl))
 
 -- request 1,000,000 asks for closing
 pub last_closes : (asked : Asked) (moment : ℕ) (bytes rest : List ℕ) → IsWhole 1000000 moment bytes asked rest → asked.close ≡ true

@@ -11,7 +11,7 @@ mod tests;
 mod words;
 
 use http_session::StdioLink;
-pub use laws::one_history;
+pub use laws::{account_of_pushes, one_history, served_at_later_histories, tenants_are_apart};
 pub use outcome::{Outcome, run};
 pub use session::{Ended, run_session};
 pub use status::Status;

@@ -1,7 +1,8 @@
 // The top call.
 ghost use Rattle.std.specs.Prelude.{◌≡◌, ◌↔◌, [], false, map, string_bytes};
 ghost use Rattle.http_session.specs.Link.{Goes, Rose};
-ghost use Rattle.pyro_server.specs.Served.{IsServed};
+ghost use Rattle.pyro_server.specs.Served.{IsServedInTurn};
+ghost use Rattle.pyro_server.specs.ServedAt.{IsServedAt};
 ghost use Rattle.pyro_server.specs.Words.{IsSession};
 
 use crate::session::run_session;
@@ -34,8 +35,10 @@ pub fn run<D, L: Link, F, E, G>(
     finish: E,
     _gate: &G,
 ) -> Outcome<D, L, F, E>
-    // What the one word `session` gives is the replies over one history, which is handed back.
-    ensures served { IsSession (map string_bytes words.now) → Goes (IsServed false result.history.items result.status) (L.told stdio) (L.told result.stdio) }
+    // What the one word `session` gives is replies over fronts of one history, which is handed back.
+    ensures served { IsSession (map string_bytes words.now) → Goes (IsServedAt false result.history.items [] result.status) (L.told stdio) (L.told result.stdio) }
+    // More closely, each is over the history that the requests before it left.
+    ensures in_turn { IsSession (map string_bytes words.now) → Goes (IsServedInTurn false result.history.items result.status) (L.told stdio) (L.told result.stdio) }
     ensures cause { result.status ≡ Status.StreamFault → Rose (L.faults stdio) (L.faults result.stdio) }
 
     // Other words are no command, and do nothing.

@@ -5,7 +5,9 @@ ghost use Rattle.http_session.specs.Reply.{bytes_of_reply};
 ghost use Rattle.http_session.specs.declared.reply.Reply.{Reply};
 ghost use Rattle.profile_model.specs.History.{HasBoundedTotals};
 ghost use Rattle.api_replies.specs.Replies.{last_reply, reply_for_memory};
-ghost use Rattle.pyro_server.specs.Served.{IsExchange, IsServed, bytes_of_last};
+ghost use Rattle.pyro_server.specs.Given.{bytes_of_last};
+ghost use Rattle.pyro_server.specs.Served.{IsExchange, IsServedInTurn};
+ghost use Rattle.pyro_server.specs.ServedAt.{IsServedAt};
 ghost use Rattle.pyro_server.specs.Steps.{GivesLast, GivesReply, IsAnswered, ServesStep};
 
 use crate::settle::settle;
@@ -39,7 +41,11 @@ enum Step {
 /// Serves the requests of one connection until it ends. It starts no thread and waits for nobody but
 /// its input.
 pub fn run_session<D, L: Link>(alloc: Global, disk: D, stdio: L, config: Config) -> Ended<D, L>
-    ensures served { Goes (IsServed config.single_tenant result.history.items result.status) (L.told stdio) (L.told result.stdio) }
+    // Each reply is over a front of its tenant's pushes in the history that is handed back.
+    ensures served { Goes (IsServedAt config.single_tenant result.history.items [] result.status) (L.told stdio) (L.told result.stdio) }
+    // More closely, each is over the history that the requests before it left.
+    ensures in_turn { Goes (IsServedInTurn config.single_tenant result.history.items result.status) (L.told stdio) (L.told result.stdio) }
+
     ensures disk { result.disk ≡ disk }
     ensures count { L.faults stdio ≤ L.faults result.stdio }
     ensures cause { result.status ≡ Status.StreamFault → Rose (L.faults stdio) (L.faults result.stdio) }
@@ -58,7 +64,7 @@ pub fn run_session<D, L: Link>(alloc: Global, disk: D, stdio: L, config: Config)
 
 fn serve<L: Link>(alloc: Global, stdio: &mut L, history: &mut Vec<Push>, config: &Config) -> Status
     requires { history.old.items ≡ [] }
-    ensures served { Goes (IsServed config.now.single_tenant history.new.items result) (L.told stdio.old) (L.told stdio.new) }
+    ensures in_turn { Goes (IsServedInTurn config.now.single_tenant history.new.items result) (L.told stdio.old) (L.told stdio.new) }
     ensures count { L.faults stdio.old ≤ L.faults stdio.new }
     ensures cause { result ≡ Status.StreamFault → Rose (L.faults stdio.old) (L.faults stdio.new) }
     ensures command { result ≢ Status.NoCommand }

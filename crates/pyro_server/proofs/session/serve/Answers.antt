@@ -5,7 +5,7 @@ use Rattle.http_session.specs.Waiting.{Waiting}
 use Rattle.http_session.specs.Takes.{IsWhole}
 use Rattle.http_session.specs.Asked.{Asked}
 use Rattle.http_session.proofs.GoesLemmas.{goes_then, goes_nowhere}
-use Rattle.pyro_server.specs.Served.{status_after}
+use Rattle.pyro_server.specs.Given.{status_after}
 use Rattle.pyro_server.proofs.Sessions.{SoFar, at_first, one_more, ended, closed, last_closes}
 use Rattle.pyro_server.specs.declared.status.Status.TheVariants.{Done, LastRequest}
 use Rattle.pyro_server.proofs.session.serve.Goals as goal
@@ -44,8 +44,8 @@ loop-number-preserved g c =
       count = omega arith;
     }
 
-pub returns-in-Answered-true-clause-served : goal.returns-in-Answered-true-clause-served
-returns-in-Answered-true-clause-served g c =
+pub returns-in-Answered-true-clause-in_turn : goal.returns-in-Answered-true-clause-in_turn
+returns-in-Answered-true-clause-in_turn g c =
     let on = c.in-Answered-true.ensures.goes_on tt in
     let counted = on.1 in
     let before = c.loop-number.invariant.number in
@@ -56,14 +56,14 @@ returns-in-Answered-true-clause-served g c =
     start between now number (goes_well _ c.loop-number.number before low) far step (λ asked moment bytes rest whole same. same ∙ c.in-Answered-true.close-test))
     c.loop-number.invariant.served c.in-Answered-true.ensures.served
 
-pub returns-in-Ended-clause-served : goal.returns-in-Ended-clause-served
-returns-in-Ended-clause-served g c =
+pub returns-in-Ended-clause-in_turn : goal.returns-in-Ended-clause-in_turn
+returns-in-Ended-clause-in_turn g c =
     goes_then _ _ _ _ _ _
     (λ start between now. ended c.args.config.now.single_tenant c.loop-number.reader c.serve_next.new.reader c.loop-number.history.items c.serve_next.new.history.items c.in-Ended.status start between now)
     c.loop-number.invariant.served c.in-Ended.ensures.served
 
-pub returns-in-Answered-clause-served : goal.returns-in-Answered-clause-served
-returns-in-Answered-clause-served g c =
+pub returns-in-Answered-clause-in_turn : goal.returns-in-Answered-clause-in_turn
+returns-in-Answered-clause-in_turn g c =
     let on = c.in-Answered.ensures.goes_on tt in
     let counted = on.1 in
     let before = c.loop-number.invariant.number in
@@ -77,8 +77,8 @@ returns-in-Answered-clause-served g c =
     (λ asked moment bytes rest whole same. last_closes asked moment bytes rest (let P : ℕ → Type 0 = λ n. IsWhole n moment bytes asked rest in subst P last whole)))
     c.loop-number.invariant.served c.in-Answered.ensures.served
 
-pub returns-clause-served : goal.returns-clause-served
-returns-clause-served g c =
+pub returns-clause-in_turn : goal.returns-clause-in_turn
+returns-clause-in_turn g c =
     goes_then _ _ _ _ _ _
     (λ start between now. ended c.args.config.now.single_tenant c.loop-number.reader c.serve_next-2.new.reader c.loop-number.history.items c.serve_next-2.new.history.items c.in-Ended-serve_next.status start between now)
     c.loop-number.invariant.served c.in-Ended-serve_next.ensures.served

@@ -1,0 +1,4 @@
+pub mod SaidLemmas
+pub mod NumberLemmas
+pub mod PushLemmas
+pub mod ExclusionLemmas

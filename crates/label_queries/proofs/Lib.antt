@@ -1,0 +1,4 @@
+pub mod OrderLemmas
+pub mod ListingLemmas
+pub mod TextLemmas
+pub mod SetLemmas

@@ -1,0 +1,4 @@
+pub mod Ordered
+pub mod Labels
+pub mod Gathered
+pub mod Texts

@@ -1,0 +1,14 @@
+//! The answers of the query methods that list labels: names, values and series.
+#![tactic(auto)]
+
+mod label_sets;
+mod laws;
+mod listing;
+mod shown;
+#[cfg(test)]
+mod tests;
+mod text;
+
+pub use label_sets::LabelSets;
+pub use laws::{each_member_once, sets_of_more_profiles};
+pub use text::{names_text, series_text};

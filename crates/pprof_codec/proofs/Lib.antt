@@ -11,5 +11,7 @@ pub mod LineLemmas
 pub mod DepthLemmas
 pub mod TotalLemmas
 pub mod RoomLemmas
+pub mod OrderLemmas
+pub mod RunLemmas
 pub mod BuildLemmas
 pub mod ProfileLemmas

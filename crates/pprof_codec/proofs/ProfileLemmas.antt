@@ -1,11 +1,12 @@
 -- What each profile weighs, and all of them.
-use Rattle.std.proofs.Common.{◌≡◌, ⊎_elim, ℕ, ◌+◌, ◌-◌, ◌^◌, ◌<◌, ◌≤◌, min, List, [], ◌∷◌, ◌++◌, length, get_or, take, drop, Bool, true, false, Some, Err, refl, sym, ap, ◌∙◌, arith}
+use Rattle.std.proofs.Common.{◌≡◌, ⊎_elim, ℕ, suc, ◌+◌, ◌-◌, ◌^◌, ◌<◌, ◌≤◌, min, List, [], ◌∷◌, ◌++◌, length, get_or, take, drop, Bool, true, false, Some, Err, refl, sym, ap, ◌∙◌, arith}
 use Rattle.std.specs.Prelude.{◌||◌, map, nat_lt, sum_by}
-use Rattle.std.specs.List.{enumerate_from}
+use Rattle.std.specs.List.{enumerate_from, range_with_len, drop-map}
 use Rattle.std.proofs.Math.Nat.{min-le_left, min-eq_left, le-min}
 use Rattle.std.proofs.lemmas.Bool.{cases_lt, lt-ltb, le-ltb}
 use Rattle.std.proofs.lemmas.List.{take_all, take-append-drop, length-map, map-append}
-use Rattle.std.proofs.lemmas.List.FromFn.{length-enumerate_from, get_or-enumerate_from}
+use Rattle.std.proofs.lemmas.List.FromFn.{length-enumerate_from, get_or-enumerate_from, get_or-map-range_with_len, length-map-range_with_len}
+use Rattle.std.proofs.Math.Seq.{drop-cons}
 use Rattle.std.proofs.lemmas.List.Sums.{sum_by-cons, sum_by-append}
 use Rattle.profile_model.specs.LabelSets.{Label}
 use Rattle.profile_model.specs.Sums as sums
@@ -18,7 +19,7 @@ use Rattle.pprof_codec.specs.declared.fault.PprofFault.{PprofFault}
 use Rattle.pprof_codec.specs.declared.fault.PprofFault.TheVariants.{Memory, Weight}
 use Rattle.pprof_codec.specs.Profiles.{Held, held_of, held_weight, parts_of, profile_of, profiles_of, samples_of, stacks_weight, time_of, weight_of}
 use Rattle.pprof_codec.specs.Checks.{fault_if, first_of, weight_faults}
-use Rattle.pprof_codec.specs.Tables.{Judges, TakesRoom}
+use Rattle.pprof_codec.specs.Tables.{Judges, TakesRoom, all_sums, sums_weight}
 use Rattle.pprof_codec.proofs.FaultLemmas.{only-found, shown-push}
 
 -- ---- one profile
@@ -121,23 +122,84 @@ no-room P Q Weight before after weight faults along h = along h
 no-room P Q fault before after weight faults along h = absurd h
 
 module _ (base : Base) (pprof : Pprof) (kinds : List ValueType) (number : ℕ) (d : ValueType) (room after : ℕ) where
-  pub room-left : kinds ≡ pprof.sample_types → number < length kinds → room + sum_by held_weight (take number (profiles_of base pprof)) ≡ 268435456
+  pub room-left : (rest : ℕ) → kinds ≡ pprof.sample_types → number < length kinds
+      → room + rest + sum_by held_weight (take number (profiles_of base pprof)) ≡ 268435456
       → room ≡ after + held_weight (profile_of base pprof number (get_or kinds number d))
-      → after + sum_by held_weight (take (number + 1) (profiles_of base pprof)) ≡ 268435456
-  room-left own short before taken =
+      → after + rest + sum_by held_weight (take (number + 1) (profiles_of base pprof)) ≡ 268435456
+  room-left rest own short before taken =
       let next = profiles-more base pprof kinds (take number (profiles_of base pprof)) (profile_of base pprof number (get_or kinds number d)) number d own short refl refl in
       let weighed = ap (sum_by held_weight) next in
       let more = weight-push (take number (profiles_of base pprof)) (profile_of base pprof number (get_or kinds number d)) in
       omega arith
 
-  pub profile-no_room : {T U : Type 0} (P : T → Type 0) (Q : U → Type 0) (fault : PprofFault)
-      → kinds ≡ pprof.sample_types → number < length kinds → room + sum_by held_weight (take number (profiles_of base pprof)) ≡ 268435456
+  pub profile-no_room : {T U : Type 0} (P : T → Type 0) (Q : U → Type 0) (fault : PprofFault) (rest : ℕ)
+      → kinds ≡ pprof.sample_types → number < length kinds → rest ≤ sum_by held_weight (drop (number + 1) (profiles_of base pprof))
+      → room + rest + sum_by held_weight (take number (profiles_of base pprof)) ≡ 268435456
       → TakesRoom {T = T} (Err fault) room after (held_weight (profile_of base pprof number (get_or kinds number d))) P
       → Judges {T = U} (Err fault) (weight_faults base pprof) Q
-  profile-no_room P Q fault own short before refused =
+  profile-no_room P Q fault rest own short light before refused =
       let next = profiles-more base pprof kinds (take number (profiles_of base pprof)) (profile_of base pprof number (get_or kinds number d)) number d own short refl refl in
       let weighed = ap (sum_by held_weight) next in
       let more = weight-push (take number (profiles_of base pprof)) (profile_of base pprof number (get_or kinds number d)) in
-      let most = weight-part (profiles_of base pprof) (number + 1) in
+      let whole = ap (sum_by held_weight) (take-append-drop (number + 1) (profiles_of base pprof)) in
+      let parts = sum_by-append held_weight (take (number + 1) (profiles_of base pprof)) (drop (number + 1) (profiles_of base pprof)) in
       no-room P Q fault room after (held_weight (profile_of base pprof number (get_or kinds number d))) (weight_faults base pprof)
       (λ less. too-heavy base pprof (omega arith)) refused
+
+-- ---- the sums that are left
+
+abbrev values_in : Held → List sums.Sample
+values_in held = held.values
+
+map-numbers : {X : Type 0} (f : ℕ → X) (from : ℕ) (kinds : List ValueType)
+    → map (λ (one : ℕ × ValueType). f one.0) (enumerate_from from kinds) ≡ map f (range_with_len from (length kinds))
+map-numbers f from [] = refl
+map-numbers f from (kind ∷ kinds) = ap (λ xs. f from ∷ xs) (map-numbers f (from + 1) kinds)
+
+map-twice : {A X Y : Type 0} (f : A → X) (g : X → Y) (xs : List A) → map g (map f xs) ≡ map (λ x. g (f x)) xs
+map-twice f g [] = refl
+map-twice f g (x ∷ xs) = ap (λ ys. g (f x) ∷ ys) (map-twice f g xs)
+
+sums-held : (base : Base) (pprof : Pprof) → all_sums pprof ≡ map values_in (profiles_of base pprof)
+unfolding all_sums profiles_of profile_of
+sums-held base pprof =
+    sym (map-twice (λ (one : ℕ × ValueType). profile_of base pprof one.0 one.1) values_in (enumerate_from 0 pprof.sample_types)
+    ∙ map-numbers (λ number. sums.sums_of (samples_of pprof number)) 0 pprof.sample_types)
+
+held-light : (all : List Held) → sums_weight (map values_in all) ≤ sum_by held_weight all
+held-light [] = omega arith
+held-light (one ∷ all) =
+    let rest = held-light all in
+    let stacks = sum_by-cons stacks_weight (values_in one) (map values_in all) in
+    let whole = sum_by-cons held_weight one all in omega arith
+
+-- the sums of the profiles that are to come weigh no more than these
+pub rest-light : (base : Base) (pprof : Pprof) (n : ℕ) → sums_weight (drop n (all_sums pprof)) ≤ sum_by held_weight (drop n (profiles_of base pprof))
+rest-light base pprof n =
+    let e = ap sums_weight (ap (drop n) (sums-held base pprof) ∙ drop-map values_in n (profiles_of base pprof)) in
+    let light = held-light (drop n (profiles_of base pprof)) in omega arith
+
+pub sums-heavy : {T U : Type 0} (P : T → Type 0) (Q : U → Type 0) (base : Base) (pprof : Pprof) (fault : PprofFault) (after : ℕ)
+    → TakesRoom {T = T} (Err fault) 268435456 after (sums_weight (all_sums pprof)) P → Judges {T = U} (Err fault) (weight_faults base pprof) Q
+sums-heavy P Q base pprof fault after refused =
+    let light = rest-light base pprof 0 in
+    no-room P Q fault 268435456 after (sums_weight (all_sums pprof)) (weight_faults base pprof) (λ less. too-heavy base pprof (omega arith)) refused
+
+pub sums-length : (pprof : Pprof) → length (all_sums pprof) ≡ length pprof.sample_types
+unfolding all_sums
+sums-length pprof = length-map-range_with_len (λ number. sums.sums_of (samples_of pprof number)) 0 (length pprof.sample_types)
+
+-- the next of the sums that are left
+pub next-left : (pprof : Pprof) (number : ℕ) (left rest : List (List sums.Sample)) (values : List sums.Sample) → number < length pprof.sample_types
+    → left ≡ drop number (all_sums pprof) → left ≡ values ∷ rest → (values ≡ sums.sums_of (samples_of pprof number)) × (rest ≡ drop (number + 1) (all_sums pprof))
+unfolding all_sums
+next-left pprof number left rest values within before is =
+    let size = sums-length pprof in
+    let first : drop number (all_sums pprof) ≡ get_or (all_sums pprof) number [] ∷ drop (suc number) (all_sums pprof) = drop-cons (all_sums pprof) number [] (omega arith) in
+    let both : values ∷ rest ≡ get_or (all_sums pprof) number [] ∷ drop (suc number) (all_sums pprof) = sym is ∙ before ∙ first in
+    let e : suc number ≡ number + 1 = omega arith in
+    let value : values ≡ get_or (all_sums pprof) number [] = ap (λ (xs : List (List sums.Sample)). get_or xs 0 []) both in
+    let others : rest ≡ drop (suc number) (all_sums pprof) = ap (λ (xs : List (List sums.Sample)). drop 1 xs) both in (
+      value ∙ get_or-map-range_with_len (λ n. sums.sums_of (samples_of pprof n)) 0 (length pprof.sample_types) number number [] within (omega arith),
+      others ∙ ap (λ n. drop n (all_sums pprof)) e,
+    )

@@ -1,19 +1,13 @@
 -- What takes its weight from the room, and what all together take.
-use Rattle.std.proofs.Common.{◌≡◌, ⊎_elim, ℕ, ◌+◌, ◌<◌, ◌≤◌, List, [], length, get_or, take, Some, Result, Ok, Err, sym, ap, ◌∙◌, arith}
-use Rattle.std.specs.Prelude.{map, slice_get}
-use Rattle.std.proofs.lemmas.List.{get_or-map, length-map}
-use Rattle.std.proofs.lemmas.List.Sums.{fold_more}
+use Rattle.std.proofs.Common.{◌≡◌, ⊎_elim, ℕ, ◌+◌, ◌<◌, ◌≤◌, List, length, Result, Ok, Err, arith}
 use Rattle.profile_model.specs.Sums as sums
 use Rattle.profile_model.specs.Sums.{sums_of, with_added}
 use Rattle.profile_model.specs.Weights.{stack_weight}
-use Rattle.pprof_message.specs.Pprof.{Sample, Pprof}
 use Rattle.pprof_codec.specs.declared.fault.PprofFault.{PprofFault}
 use Rattle.pprof_codec.specs.declared.fault.PprofFault.TheVariants.{Memory, Weight}
-use Rattle.pprof_codec.specs.Frames.{stack_of}
-use Rattle.pprof_codec.specs.Profiles.{samples_of, stacks_weight, value_of}
+use Rattle.pprof_codec.specs.Profiles.{stacks_weight}
 use Rattle.pprof_codec.specs.Tables.{TakesRoom}
-use Rattle.pprof_codec.proofs.FaultLemmas.{get-some, shown-all}
-use Rattle.pprof_codec.proofs.WeightLemmas.{add_sample, weighs-with_added}
+use Rattle.pprof_codec.proofs.WeightLemmas.{weighs-with_added}
 
 -- where a part has no room, the whole has none
 pub takes-along : {T U : Type 0} (P : T → Type 0) (Q : U → Type 0) (fault : PprofFault) (before after weight : ℕ) (first last whole : ℕ)
@@ -42,25 +36,9 @@ pub takes-known : (known : List sums.Sample) (stack : List (List ℕ)) (value : 
 takes-known known stack value none =
     ⊎_elim (λ same. same.1) (λ new. absurd (let counted = new.0 in omega arith)) (weighs-with_added known stack value).holds
 
--- ---- the sums of the first samples
-
-abbrev counted : Pprof → ℕ → Sample → sums.Sample
-counted pprof number sample = (stack_of pprof sample, value_of number sample)
-
--- one sample more
-pub sums-more : (pprof : Pprof) (number at : ℕ) (sample : Sample) (known : List sums.Sample) (stack : List (List ℕ)) (value : ℕ)
-    → slice_get pprof.samples at ≡ Some sample → stack ≡ stack_of pprof sample → value ≡ value_of number sample
-    → known ≡ sums_of (take at (samples_of pprof number)) → with_added known stack value ≡ sums_of (take (at + 1) (samples_of pprof number))
-unfolding samples_of
-sums-more pprof number at sample known stack value is framed valued before =
-    let read = get-some pprof.samples at sample is in
-    let size = length-map pprof.samples (counted pprof number) in
-    let here : get_or (map (counted pprof number) pprof.samples) at (counted pprof number sample) ≡ counted pprof number sample =
-    get_or-map (counted pprof number) pprof.samples at sample (counted pprof number sample) read.0 ∙ ap (counted pprof number) read.1 in
-    (λ k. with_added (before k) (framed k) (valued k))
-    ∙ sym (fold_more add_sample [] (map (counted pprof number) pprof.samples) at (counted pprof number sample) (omega arith)
-    ∙ ap (add_sample (sums_of (take at (map (counted pprof number) pprof.samples)))) here)
-
-pub sums-all : (pprof : Pprof) (number at : ℕ) → length pprof.samples ≤ at → take at (samples_of pprof number) ≡ samples_of pprof number
-unfolding samples_of
-sums-all pprof number at all = shown-all (counted pprof number) pprof.samples at all
+-- the same of a part's weight and result as of the whole's
+pub takes-part : {T : Type 0} (Q R : Type 0) (taken : Result T PprofFault) (before after weight first whole : ℕ)
+    → (before < weight → first < whole) → (before ≡ after + weight → first ≡ after + whole) → (Q → R)
+    → TakesRoom taken before after weight (λ _. Q) → TakesRoom taken first after whole (λ _. R)
+takes-part Q R (Ok x) before after weight first whole less same made h = (same h.0, made h.1)
+takes-part Q R (Err fault) before after weight first whole less same made h = takes-along (λ _. Q) (λ _. R) fault before after weight first after whole less h

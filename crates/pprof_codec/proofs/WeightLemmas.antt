@@ -61,7 +61,7 @@ weight-fold sums (s ∷ ss) =
     let one = weight-grows sums (add_sample sums s) s.0 (weighs-with_added sums s.0 s.1) in
     let rest = weight-fold (add_sample sums s) ss in omega arith
 
-fold-parts : (sums xs ys : List Sample) → fold add_sample sums (xs ++ ys) ≡ fold add_sample (fold add_sample sums xs) ys
+pub fold-parts : (sums xs ys : List Sample) → fold add_sample sums (xs ++ ys) ≡ fold add_sample (fold add_sample sums xs) ys
 fold-parts sums [] ys = refl
 fold-parts sums (x ∷ xs) ys = fold-parts (add_sample sums x) xs ys
 

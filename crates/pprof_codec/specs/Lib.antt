@@ -4,4 +4,5 @@ pub mod Frames
 pub mod Profiles
 pub mod Checks
 pub mod Read
+pub mod LocationFrames
 pub mod Tables

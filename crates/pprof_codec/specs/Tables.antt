@@ -1,12 +1,16 @@
 -- What is kept of a profile's message while it is read.
-use Rattle.std.specs.Prelude.{◌≡◌, ◌==◌, ◌&&◌, ℕ, ◌+◌, ◌-◌, ◌<◌, Bool, List, [], length, map, position, get_or, nat_lt, slice_get, option_and_then, Option, Some, Result, Ok, Err, if◌then◌else◌}
+use Rattle.std.specs.Prelude.{◌≡◌, ◌==◌, ◌&&◌, ℕ, ◌+◌, ◌-◌, ◌<◌, Bool, List, [], length, map, position, get_or, nat_lt, slice_get, sum_by, option_and_then, Option, Some, Result, Ok, Err, if◌then◌else◌}
+use Rattle.std.specs.List.{range_with_len}
 use Rattle.std.specs.Map.{lookup}
 use Rattle.std.specs.BTreeMap.{is_at}
 use Rattle.std.specs.Ordering.{nat_cmp}
+use Rattle.profile_model.specs.Sums as sums
+use Rattle.profile_model.specs.Sums.{sums_of, with_added}
 use Rattle.pprof_message.specs.Pprof.{Pprof}
 use Rattle.pprof_codec.specs.declared.fault.PprofFault.{PprofFault}
 use Rattle.pprof_codec.specs.declared.fault.PprofFault.TheVariants.{Memory, Weight}
-use Rattle.pprof_codec.specs.Frames.{function_frame, location_frames}
+use Rattle.pprof_codec.specs.Frames.{function_frame, location_frames, root_first}
+use Rattle.pprof_codec.specs.Profiles.{samples_of, stacks_weight}
 use Rattle.pprof_codec.specs.Checks.{first_of}
 
 -- a part was judged: it has no fault and P holds, or this is its first fault
@@ -48,3 +52,42 @@ TakesRoom (Ok x) before after weight P = (before ≡ after + weight) × P x
 TakesRoom (Err Memory) before after weight P = Unit {0}
 TakesRoom (Err Weight) before after weight P = before < weight
 TakesRoom (Err fault) before after weight P = ⊥
+
+-- ---- samples by their numbers
+
+-- the numbers of all samples
+abbrev pub numbers_of : Pprof → List ℕ
+numbers_of pprof = range_with_len 0 (length pprof.samples)
+
+-- the location ids of the sample with this number
+abbrev pub ids_at : Pprof → ℕ → List ℕ
+ids_at pprof at = get_or (map (λ sample. sample.location_ids) pprof.samples) at []
+
+-- the stack of the sample with this number, and its value of a sample type
+abbrev pub sample_at : Pprof → ℕ → ℕ → sums.Sample
+sample_at pprof number at = get_or (samples_of pprof number) at ([], 0)
+
+-- these samples' values of a sample type, together
+abbrev pub value_over : Pprof → ℕ → List ℕ → ℕ
+value_over pprof number run = sum_by (λ at. (sample_at pprof number at).1) run
+
+-- the stack of the first of these samples
+abbrev pub first_stack : Pprof → List ℕ → List (List ℕ)
+first_stack pprof run = root_first pprof (ids_at pprof (get_or run 0 0))
+
+-- each sample type's sums of these samples
+unfoldable pub sums_over : Pprof → List ℕ → List (List sums.Sample)
+sums_over pprof order =
+    map (λ number. sums_of (map (sample_at pprof number) order)) (range_with_len 0 (length pprof.sample_types))
+
+-- each sample type's sums
+unfoldable pub all_sums : Pprof → List (List sums.Sample)
+all_sums pprof = map (λ number. sums_of (samples_of pprof number)) (range_with_len 0 (length pprof.sample_types))
+
+-- each sample type's sums, with the values of samples that have this stack
+unfoldable pub run_added : Pprof → List ℕ → List (List ℕ) → List (List sums.Sample) → List (List sums.Sample)
+run_added pprof run stack before =
+    map (λ number. with_added (get_or before number []) stack (value_over pprof number run)) (range_with_len 0 (length before))
+
+abbrev pub sums_weight : List (List sums.Sample) → ℕ
+sums_weight all = sum_by stacks_weight all

@@ -9,7 +9,11 @@ mod ids;
 mod judged;
 mod locations;
 mod reader;
+mod room;
+mod runs;
 mod samples;
+mod stacks;
+mod sums;
 #[cfg(test)]
 mod tests;
 mod texts;

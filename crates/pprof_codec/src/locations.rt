@@ -15,32 +15,60 @@ use pprof_message::{LocationRef, PprofMessage};
 use profile_model::Name;
 use std::alloc::{AllocError, Global};
 use std::marker::Model;
+use std::slice;
 
 // The frames of one location, the innermost first.
 #[derive(Drop)]
 pub(crate) struct Frames {
-    names: Vec<Name>,
+    names: Names,
+}
+
+// Most locations have one frame, which needs no list of its own.
+#[derive(Drop)]
+enum Names {
+    One(Name),
+    Many(Vec<Name>),
 }
 
 impl Model for Frames {
     ghost use Rattle.std.specs.Prelude.{List, ℕ};
+    ghost use Rattle.pprof_codec.specs.LocationFrames.{names_in};
 
     ghost Value = { List (List ℕ) };
 
-    ghost view = { λ f. f.names.items };
+    ghost view = { λ f. names_in f.names };
 }
 
 impl Frames {
+    fn one(name: Name) -> Frames
+        ensures { result ≡ name ∷ [] }
+    {
+        Frames {
+            names: Names::One(name),
+        }
+    }
+
+    fn many(names: Vec<Name>) -> Frames
+        ensures { result ≡ names.items }
+    {
+        Frames {
+            names: Names::Many(names),
+        }
+    }
+
     pub(crate) fn as_slice(&self) -> &[Name]
         ensures { result.now ≡ self.now }
     {
-        &self.names
+        match &self.names {
+            Names::One(name) => slice::from_ref(name),
+            Names::Many(names) => names.as_slice(),
+        }
     }
 
     pub(crate) fn len(&self) -> usize
         ensures { result ≡ length self.now }
     {
-        self.names.len()
+        self.as_slice().len()
     }
 }
 
@@ -137,21 +165,23 @@ fn frames_of(
     if location.lines.is_empty() {
         return frames_of_address(alloc, location.address);
     }
+    if let [id] = location.lines {
+        let frame = line_frame(unknown, functions, *id);
+        return Ok(Frames::one(frame.clone()?));
+    }
     let mut names = Vec::with_capacity(alloc, location.lines.len())?;
     for id in location.lines {
         let frame = line_frame(unknown, functions, *id);
         names.push(frame.clone()?)?;
     }
-    Ok(Frames { names })
+    Ok(Frames::many(names))
 }
 
 fn frames_of_address(alloc: Global, address: u64) -> Result<Frames, AllocError>
     ensures { IfOk result (λ frames. frames ≡ address_frame address ∷ []) }
 {
     let text = format!(in alloc; "0x{address:x}")?;
-    let mut names = Vec::with_capacity(alloc, 1)?;
-    names.push(Name::from_text(alloc, &text)?)?;
-    Ok(Frames { names })
+    Ok(Frames::one(Name::from_text(alloc, &text)?))
 }
 
 // The frame of the line's function.

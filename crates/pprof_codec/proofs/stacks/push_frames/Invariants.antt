@@ -1,5 +1,5 @@
 use Rattle.std.proofs.Common.{◌≡◌, ◌++◌, take}
-use Rattle.pprof_codec.proofs.build.push_frames.Given as goal
+use Rattle.pprof_codec.proofs.stacks.push_frames.Given as goal
 
 abbrev pub invariant-loop-frame : goal.invariant-loop-frame
 invariant-loop-frame l = l.frames.items ≡ l.fn.frames.items ++ take l.frame-index l.frame-items

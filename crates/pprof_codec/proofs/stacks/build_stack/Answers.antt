@@ -6,7 +6,7 @@ use Rattle.profile_model.specs.Stacks.{IsStack}
 use Rattle.pprof_message.specs.Gathered.{sample_in}
 use Rattle.pprof_codec.specs.Frames.{frames_at, stack_of}
 use Rattle.pprof_codec.proofs.BuildLemmas.{leaf_first, turned-round, no-stack_fault}
-use Rattle.pprof_codec.proofs.build.build_stack.Goals as goal
+use Rattle.pprof_codec.proofs.stacks.build_stack.Goals as goal
 
 pub unreachable-requires : goal.unreachable-requires
 unreachable-requires c =

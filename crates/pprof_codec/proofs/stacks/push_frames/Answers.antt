@@ -2,7 +2,7 @@ use Rattle.std.proofs.Common.{◌++◌, [], sym, ap, ◌∙◌, arith}
 use Rattle.std.specs.Prelude.{unwrap_or}
 use Rattle.std.proofs.lemmas.List.{append-nil, take_all}
 use Rattle.pprof_codec.proofs.TableLemmas.{frames-found}
-use Rattle.pprof_codec.proofs.build.push_frames.Goals as goal
+use Rattle.pprof_codec.proofs.stacks.push_frames.Goals as goal
 
 pub returns-after-loop-frame : goal.returns-after-loop-frame
 returns-after-loop-frame c =

@@ -1,0 +1,5 @@
+pub mod Series
+pub mod Forms
+pub mod FormReading
+pub mod Ingests
+pub mod Faults

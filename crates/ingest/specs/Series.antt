@@ -1,0 +1,13 @@
+-- What the labels of a series say of its profiles' type.
+use Rattle.std.specs.Prelude.{ℕ, List, codes}
+use Rattle.std.specs.Option.{unwrap_or}
+use Rattle.profile_model.specs.CleanedTexts.{cleaned}
+use Rattle.profile_model.specs.LabelSets.{Label, label_of, without_label}
+
+-- the two names that stand for a profile's type are no labels of a profile
+abbrev pub own_labels : List Label → List Label
+own_labels labels = without_label (without_label labels (codes "__name__")) (codes "__profile_type__")
+
+-- the name of the type
+abbrev pub kind_name : List Label → List ℕ
+kind_name labels = cleaned (unwrap_or (label_of labels (codes "__name__")) (codes "process_cpu"))

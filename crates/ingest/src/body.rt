@@ -1,0 +1,88 @@
+// The profiles of a body.
+ghost use Rattle.std.specs.Prelude.{◌≡◌, ◌≢◌, [], ◌∷◌, Err, IfOk, MatchResult, Ok};
+ghost use Rattle.profile_model.specs.Sums.{Sample};
+ghost use Rattle.profile_model.specs.declared.profile.Profile.{Profile};
+ghost use Rattle.ingest.specs.Ingests.{AreProfiles, IsBaseOf, IsBodyFault, IsReadStacks, IsStackProfile};
+ghost use Rattle.pprof_codec.specs.Read.{AreProfilesOf, IsFirstFault};
+
+use crate::IngestFault;
+use crate::form::{Form, Format};
+use folded_reader::{FoldedFault, read_folded, read_lines};
+use pprof_codec::{Base, PprofFault, read_pprof};
+use profile_model::{Name, Profile, ProfileType, Profiles, StackSums};
+use std::alloc::{AllocError, Global};
+
+pub(crate) fn read_body(alloc: Global, form: Form, body: &[u8]) -> Result<Profiles, IngestFault>
+    ensures { MatchResult result (AreProfiles form body.now) (IsBodyFault form body.now) }
+{
+    match form.format {
+        Format::Folded => match read_folded(alloc, body) {
+            Ok(values) => Ok(stack_profile(alloc, form, values)?),
+            Err(fault) => Err(folded_fault(fault)),
+        },
+        Format::Lines => match read_lines(alloc, body) {
+            Ok(values) => Ok(stack_profile(alloc, form, values)?),
+            Err(fault) => Err(folded_fault(fault)),
+        },
+        Format::Pprof => match read_pprof(alloc, body, &base_of(form)) {
+            Ok(profiles) => Ok(Profiles::from_vec(profiles)),
+            Err(fault) => Err(pprof_fault(fault)),
+        },
+    }
+}
+
+fn folded_fault(fault: FoldedFault) -> IngestFault
+    ensures memory { fault ≡ FoldedFault.Memory → result ≡ IngestFault.Memory }
+    ensures other { fault ≢ FoldedFault.Memory → result ≡ IngestFault.Folded fault }
+{
+    match fault {
+        FoldedFault::Memory => IngestFault::Memory,
+        fault => IngestFault::Folded(fault),
+    }
+}
+
+fn pprof_fault(fault: PprofFault) -> IngestFault
+    ensures memory { fault ≡ PprofFault.Memory → result ≡ IngestFault.Memory }
+    ensures other { fault ≢ PprofFault.Memory → result ≡ IngestFault.Pprof fault }
+{
+    match fault {
+        PprofFault::Memory => IngestFault::Memory,
+        fault => IngestFault::Pprof(fault),
+    }
+}
+
+// What a pprof's profiles are given besides what it says.
+fn base_of(form: Form) -> Base
+    ensures { IsBaseOf form result }
+{
+    Base {
+        labels: form.labels,
+        name: form.name,
+        fallback_ms: form.time_ms,
+    }
+}
+
+// The one profile that stacks make: samples of a processor's time.
+fn stack_profile(alloc: Global, form: Form, values: StackSums) -> Result<Profiles, AllocError>
+    ensures { IfOk result (λ profiles. (profile : Profile) × IsStackProfile form values profile × (profiles ≡ profile ∷ [])) }
+{
+    let profile = profile_of(alloc, form, values)?;
+    Profiles::one(alloc, profile)
+}
+
+fn profile_of(alloc: Global, form: Form, values: StackSums) -> Result<Profile, AllocError>
+    ensures { IfOk result (IsStackProfile form values) }
+{
+    Ok(Profile {
+        kind: ProfileType {
+            name: form.name,
+            sample_type: Name::from_text(alloc, "samples")?,
+            sample_unit: form.units,
+            period_type: Name::from_text(alloc, "cpu")?,
+            period_unit: Name::from_text(alloc, "nanoseconds")?,
+        },
+        labels: form.labels,
+        time_ms: form.time_ms,
+        values,
+    })
+}

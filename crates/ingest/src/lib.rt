@@ -1,0 +1,18 @@
+//! What a request to ingest says: its parameters name the series, and its body holds the stacks.
+//!
+//! The parameters and the forms of the body are those of Pyroscope's `/ingest`. Which forms are read, the order of
+//! the faults and the bounds are this project's own.
+#![tactic(auto)]
+
+mod body;
+mod fault;
+mod form;
+mod parameters;
+mod reader;
+mod series;
+#[cfg(test)]
+mod tests;
+
+pub use fault::IngestFault;
+pub use reader::{MAX_WEIGHT, read_ingest};
+pub use series::{own_labels, type_name};

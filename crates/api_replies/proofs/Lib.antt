@@ -1,4 +1,5 @@
 pub mod AnswerLemmas
-pub mod KindLemmas
+pub mod LabelLemmas
+pub mod MeaningLemmas
 pub mod RenderingLemmas
 pub mod ReplyLemmas

@@ -1,22 +1,19 @@
 -- The bodies of refusals: compact JSON, keys ascending.
-use Rattle.std.specs.Prelude.{ℕ, List, ◌++◌, codes, decimal, Option, Some, None}
+use Rattle.std.specs.Prelude.{ℕ, List, ◌++◌, map, codes, decimal}
+use Rattle.std.specs.List.{join_with_byte}
 
 -- {"fault":"CODE"}
 abbrev pub named_body : List ℕ → List ℕ
 named_body code = codes "{\"fault\":\"" ++ code ++ codes "\"}"
 
--- {"fault":"CODE","place":[]}
-abbrev pub placeless_body : List ℕ → List ℕ
-placeless_body code = codes "{\"fault\":\"" ++ code ++ codes "\",\"place\":[]}"
+-- numbers, with a comma between each two
+abbrev pub place_text : List ℕ → List ℕ
+place_text place = join_with_byte 44 (map decimal place)
 
--- {"fault":"CODE","place":[AT]}
-abbrev pub placed_body : List ℕ → ℕ → List ℕ
-placed_body code at = codes "{\"fault\":\"" ++ code ++ codes "\",\"place\":[" ++ decimal at ++ codes "]}"
-
--- a fault of reading, by its code and the place where it has one
-abbrev pub coded_body : List ℕ → Option ℕ → List ℕ
-coded_body code None = placeless_body code
-coded_body code (Some at) = placed_body code at
+-- {"fault":"CODE","place":[A,B,..]}
+abbrev pub placed_body : List ℕ → List ℕ → List ℕ
+placed_body code place =
+    codes "{\"fault\":\"" ++ code ++ codes "\",\"place\":[" ++ place_text place ++ codes "]}"
 
 -- {"asked":PUSH,"fault":"limit","kept":KEPT,"limit":LIMIT}
 abbrev pub limit_body : ℕ → ℕ → ℕ → List ℕ

@@ -1,5 +1,9 @@
-pub mod FaultBodies
 pub mod Forms
+pub mod Renders
+pub mod LabelAsks
 pub mod Meanings
+pub mod FaultBodies
+pub mod Refusals
 pub mod Replies
 pub mod Rendering
+pub mod Listing

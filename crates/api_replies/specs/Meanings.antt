@@ -1,111 +1,117 @@
 -- What a request means: a write, a query, or the first refusal in the order of refusals.
-use Rattle.std.specs.Prelude.{◌≡◌, ◌≢◌, ◌-◌, ◌⊎◌, ℕ, Bool, true, false, List, [], ◌∷◌, IsSome, codes, Some, None, Ok, Err}
+use Rattle.std.specs.Prelude.{◌≡◌, ◌≢◌, ◌⊎◌, ℕ, Bool, true, false, List, IsSome, Some, None}
 use Rattle.http_session.specs.Asked.{Asked}
-use Rattle.folded_reader.specs.Folded.{IsReadFolded}
-use Rattle.folded_reader.specs.declared.fault.FoldedFault.TheVariants as folded
-use Rattle.profile_model.specs.Sums.{Sample}
+use Rattle.ingest.specs.Ingests.{SaysProfiles, IsIngestFault}
+use Rattle.ingest.specs.declared.fault.IngestFault.TheVariants.{Memory as no_memory}
+use Rattle.json_push.specs.Pushed.{SaysPushed, IsPushFault}
+use Rattle.json_push.specs.declared.fault.PushFault.TheVariants.{Memory as no_room}
 use Rattle.profile_model.specs.TenantPlaces.{wrong_place}
-use Rattle.profile_model.specs.ReadKinds.{parts_in}
-use Rattle.profile_model.specs.declared.profile.Profile.{Profile}
-use Rattle.profile_model.specs.declared.push.Push.{Push}
+use Rattle.profile_model.specs.declared.push.Push.{Push as Kept}
 use Rattle.query_parameters.specs.Parameters.{parameters_of}
-use Rattle.api_replies.specs.Forms.{route_of, tenant_of, has_unbuilt_form, only_service, IsQuery, IsNoQuery}
+use Rattle.routes.specs.Paths.{found_at}
+use Rattle.routes.specs.declared.route.Route.{Route}
+use Rattle.routes.specs.declared.route.Found.TheVariants as found
+use Rattle.api_replies.specs.Forms.{task_at, task_of, tenant_of, is_encoded, asks_for_front}
+use Rattle.api_replies.specs.Renders.{IsRenderAsk, IsRenderFault}
+use Rattle.api_replies.specs.LabelAsks.{IsLabelAsk, IsLabelFault, method_of}
 use Rattle.api_replies.specs.declared.ask.Ask.{Ask}
+use Rattle.api_replies.specs.declared.ask.Ask.TheVariants as ask
+use Rattle.api_replies.specs.declared.form.PushForm.{PushForm}
+use Rattle.api_replies.specs.declared.form.PushForm.TheVariants as written
 use Rattle.api_replies.specs.declared.meaning.Meaning.{Meaning}
-use Rattle.api_replies.specs.declared.meaning.Meaning.TheVariants.{Write, Render as Query}
-use Rattle.api_replies.specs.declared.meaning.Route.{Route}
-use Rattle.api_replies.specs.declared.meaning.Route.TheVariants.{Ingest, Render}
+use Rattle.api_replies.specs.declared.meaning.Meaning.TheVariants.{Write, Query}
+use Rattle.api_replies.specs.declared.task.Task.{Task}
+use Rattle.api_replies.specs.declared.task.Task.TheVariants.{Ingest, Push, Render, Labels}
 use Rattle.api_replies.specs.declared.refusal.Refusal.{Refusal}
-use Rattle.api_replies.specs.declared.refusal.Refusal.TheVariants.{Unbuilt, NoTenant, BadTenant, Folded, Memory}
+use Rattle.api_replies.specs.declared.refusal.Refusal.TheVariants as refused
 
 -- the request has a route that is built, and names a tenant
 pub record IsRouted (single : Bool) (asked : Asked) (tenant : List ℕ) : Type 0 where
-  pub route : IsSome (route_of asked)
+  pub route : IsSome (task_at asked)
   pub named : tenant_of single asked ≡ Some tenant
   pub rightly : wrong_place tenant ≡ None
 
--- the request comes as far as its parameters: nothing before them refuses it
-pub record Reaches (single : Bool) (asked : Asked) (route : Route) (tenant : List ℕ) : Type 0 where
-  pub route_is : route_of asked ≡ Some route
+-- the request comes as far as its parameters and its body: nothing before them refuses it
+pub record Reaches (single : Bool) (asked : Asked) (task : Task) (tenant : List ℕ) : Type 0 where
+  pub task_is : task_at asked ≡ Some task
   pub named : tenant_of single asked ≡ Some tenant
   pub rightly : wrong_place tenant ≡ None
-  pub built : has_unbuilt_form asked ≡ false
+  pub plain : is_encoded asked ≡ false
+  pub built : asks_for_front asked ≡ false
 
--- the profile that folded stacks make
-pub record IsFoldedProfile (service : List ℕ) (time : ℕ) (sums : List Sample) (profile : Profile) : Type 0 where
-  pub labels : profile.labels ≡ (codes "service_name", service) ∷ []
-  pub kind : parts_in profile.kind ≡ codes "process_cpu" ∷ codes "samples" ∷ codes "count" ∷ codes "cpu" ∷ codes "nanoseconds" ∷ []
-  pub time_is : profile.time_ms ≡ time
-  pub values : profile.values ≡ sums
-
--- the push has that profile alone
-pub record IsFoldedPush (service : List ℕ) (time : ℕ) (sums : List Sample) (push : Push) : Type 0 where
-  pub profile : Profile
-  pub one : push.profiles ≡ profile ∷ []
-  pub made : IsFoldedProfile service time sums profile
-
--- these parameters and the body of a request to ingest say this push
-pub record SaysPush (parameters : List (List ℕ × List ℕ)) (asked : Asked) (push : Push) : Type 0 where
-  pub service : List ℕ
-  pub sums : List Sample
-  pub serves : only_service parameters ≡ Some service
-  pub read : IsReadFolded asked.body (Ok sums)
-  pub made : IsFoldedPush service asked.moment sums push
-
--- the first fault of these parameters and the body of a request to ingest
-abbrev pub IsPushRefused : List (List ℕ × List ℕ) → Asked → Refusal → Type 0
-IsPushRefused parameters asked Unbuilt = only_service parameters ≡ None
-IsPushRefused parameters asked (Folded fault) = IsSome (only_service parameters) × (fault ≢ folded.Memory) × IsReadFolded asked.body (Err fault)
-IsPushRefused parameters asked Memory = Unit {0}
-IsPushRefused parameters asked NoTenant = ⊥
-IsPushRefused parameters asked (BadTenant at) = ⊥
-
--- these parameters of a render ask for this, over the last hour
-pub record SaysAsk (parameters : List (List ℕ × List ℕ)) (asked : Asked) (ask : Ask) : Type 0 where
-  pub query : IsQuery parameters ask.kind
-  pub from : ask.from_ms ≡ asked.moment - 3600000
-  pub until : ask.until_ms ≡ asked.moment
-
--- the first fault of these parameters of a render
-abbrev pub IsAskRefused : List (List ℕ × List ℕ) → Refusal → Type 0
-IsAskRefused parameters Unbuilt = IsNoQuery parameters
-IsAskRefused parameters Memory = Unit {0}
-IsAskRefused parameters NoTenant = ⊥
-IsAskRefused parameters (BadTenant at) = ⊥
-IsAskRefused parameters (Folded fault) = ⊥
-
--- the request is a write of this push
-pub record IsWrite (single : Bool) (asked : Asked) (push : Push) : Type 0 where
-  pub reaches : Reaches single asked Ingest push.tenant
-  pub says : SaysPush (parameters_of asked.query) asked push
+-- the request is a write of this push, in this form
+abbrev pub IsWrite : Bool → Asked → PushForm → Kept → Type 0
+IsWrite single asked written.Ingest push =
+    Reaches single asked Ingest push.tenant × SaysProfiles (parameters_of asked.query) asked.body asked.moment push.profiles
+IsWrite single asked written.Json push = Reaches single asked Push push.tenant × SaysPushed asked.body asked.moment push.profiles
 
 -- the request is this query
-pub record IsAsk (single : Bool) (asked : Asked) (ask : Ask) : Type 0 where
-  pub reaches : Reaches single asked Render ask.tenant
-  pub says : SaysAsk (parameters_of asked.query) asked ask
+abbrev pub IsAsk : Bool → Asked → Ask → Type 0
+IsAsk single asked (ask.Render what) = Reaches single asked Render what.tenant × IsRenderAsk (parameters_of asked.query) asked.moment what
+IsAsk single asked (ask.Labels what) =
+    Reaches single asked (Labels (method_of what.query)) what.tenant × IsLabelAsk (method_of what.query) asked.body what
 
 -- the request comes so far that memory is taken for it
 abbrev pub TakesMemory : Bool → Asked → Type 0
-TakesMemory single asked = (route : Route) × (tenant : List ℕ) × Reaches single asked route tenant
+TakesMemory single asked = (task : Task) × (tenant : List ℕ) × Reaches single asked task tenant
+
+-- method and path name no route, one with another method, or one that isn't built
+abbrev pub IsMisrouted : Asked → Refusal → Type 0
+IsMisrouted asked refused.NoRoute = found_at asked.method asked.path ≡ found.NoRoute
+IsMisrouted asked (refused.WrongMethod method) = found_at asked.method asked.path ≡ found.WrongMethod method
+IsMisrouted asked refused.Unbuilt = (route : Route) × (found_at asked.method asked.path ≡ found.Route route) × (task_of route ≡ None)
+IsMisrouted asked refusal = ⊥
 
 -- the request is refused, whatever its parameters and its body say
 abbrev pub IsRefusedOutright : Bool → Asked → Refusal → Type 0
-IsRefusedOutright single asked Unbuilt =
-    (route_of asked ≡ None) ⊎ ((tenant : List ℕ) × IsRouted single asked tenant × (has_unbuilt_form asked ≡ true))
-IsRefusedOutright single asked NoTenant = IsSome (route_of asked) × (tenant_of single asked ≡ None)
-IsRefusedOutright single asked (BadTenant at) =
-    IsSome (route_of asked) × ((tenant : List ℕ) × (tenant_of single asked ≡ Some tenant) × (wrong_place tenant ≡ Some at))
-IsRefusedOutright single asked (Folded fault) = ⊥
-IsRefusedOutright single asked Memory = TakesMemory single asked
+IsRefusedOutright single asked refused.NoTenant = IsSome (task_at asked) × (tenant_of single asked ≡ None)
+IsRefusedOutright single asked (refused.BadTenant at) =
+    IsSome (task_at asked) × ((tenant : List ℕ) × (tenant_of single asked ≡ Some tenant) × (wrong_place tenant ≡ Some at))
+IsRefusedOutright single asked refused.Encoded = (tenant : List ℕ) × IsRouted single asked tenant × (is_encoded asked ≡ true)
+IsRefusedOutright single asked refused.Unbuilt =
+    IsMisrouted asked refused.Unbuilt
+    ⊎ ((tenant : List ℕ) × IsRouted single asked tenant × (is_encoded asked ≡ false) × (asks_for_front asked ≡ true))
+IsRefusedOutright single asked refused.Memory = TakesMemory single asked
+IsRefusedOutright single asked refusal = IsMisrouted asked refusal
+
+-- the first fault of the parameters and the body of a request to ingest, and of a push
+abbrev pub IsWriteFault : Asked → Refusal → Type 0
+IsWriteFault asked (refused.Ingest fault) = (fault ≢ no_memory) × IsIngestFault (parameters_of asked.query) asked.body asked.moment fault
+IsWriteFault asked refusal = ⊥
+
+abbrev pub IsPushedFault : Asked → Refusal → Type 0
+IsPushedFault asked (refused.Push fault) = (fault ≢ no_room) × IsPushFault asked.body asked.moment fault
+IsPushedFault asked refusal = ⊥
+
+-- the first fault of what the request's task reads
+abbrev pub IsTaskFault : Asked → Task → Refusal → Type 0
+IsTaskFault asked Ingest = IsWriteFault asked
+IsTaskFault asked Push = IsPushedFault asked
+IsTaskFault asked Render = IsRenderFault (parameters_of asked.query) asked.moment
+IsTaskFault asked (Labels method) = IsLabelFault method asked.body
 
 -- the request is refused, and this is the first refusal; want of memory may come in place of any once memory is taken
 abbrev pub IsRefused : Bool → Asked → Refusal → Type 0
 IsRefused single asked refusal =
     IsRefusedOutright single asked refusal
-    ⊎ (((tenant : List ℕ) × Reaches single asked Ingest tenant × IsPushRefused (parameters_of asked.query) asked refusal)
-    ⊎ ((tenant : List ℕ) × Reaches single asked Render tenant × IsAskRefused (parameters_of asked.query) refusal))
+    ⊎ ((task : Task) × (tenant : List ℕ) × Reaches single asked task tenant × IsTaskFault asked task refusal)
 
 -- what the request means, where it isn't refused
 abbrev pub Means : Bool → Asked → Meaning → Type 0
-Means single asked (Write push) = IsWrite single asked push
-Means single asked (Query ask) = IsAsk single asked ask
+Means single asked (Write form push) = IsWrite single asked form push
+Means single asked (Query what) = IsAsk single asked what
+
+-- what a request that comes so far means by its task
+abbrev pub MeansTask : Asked → Task → List ℕ → Meaning → Type 0
+MeansTask asked Ingest tenant (Write written.Ingest push) =
+    (push.tenant ≡ tenant) × SaysProfiles (parameters_of asked.query) asked.body asked.moment push.profiles
+MeansTask asked Push tenant (Write written.Json push) = (push.tenant ≡ tenant) × SaysPushed asked.body asked.moment push.profiles
+MeansTask asked Render tenant (Query (ask.Render what)) = (what.tenant ≡ tenant) × IsRenderAsk (parameters_of asked.query) asked.moment what
+MeansTask asked (Labels method) tenant (Query (ask.Labels what)) =
+    (what.tenant ≡ tenant) × (method_of what.query ≡ method) × IsLabelAsk method asked.body what
+MeansTask asked task tenant meaning = ⊥
+
+-- a refusal, or want of memory
+abbrev pub OrMemory : (Refusal → Type 0) → Refusal → Type 0
+OrMemory P refused.Memory = Unit {0}
+OrMemory P refusal = P refusal

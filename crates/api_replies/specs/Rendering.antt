@@ -3,16 +3,16 @@ use Rattle.std.specs.Prelude.{◌&&◌, Bool, List, filter, fold, nat_le}
 use Rattle.std.specs.List.{flat_map}
 use Rattle.profile_model.specs.Sums.{Sample, with_added}
 use Rattle.profile_model.specs.declared.profile.Profile.{Profile}
-use Rattle.api_replies.specs.Replies.{same_kind}
-use Rattle.api_replies.specs.declared.ask.Ask.{Ask}
+use Rattle.api_replies.specs.Replies.{is_matched}
+use Rattle.api_replies.specs.declared.ask.RenderAsk.{RenderAsk}
 
--- the profile stands in the window and has the type
-abbrev pub is_wanted : Ask → Profile → Bool
-is_wanted ask profile = (nat_le ask.from_ms profile.time_ms && nat_le profile.time_ms ask.until_ms) && same_kind profile.kind ask.kind
+-- the profile stands in the window and is asked for
+abbrev pub is_wanted : RenderAsk → Profile → Bool
+is_wanted what profile = (nat_le what.from_ms profile.time_ms && nat_le profile.time_ms what.until_ms) && is_matched what profile
 
--- all samples of those that do, in order
-abbrev pub wanted_samples : Ask → List Profile → List Sample
-wanted_samples ask profiles = flat_map (λ profile. profile.values) (filter (is_wanted ask) profiles)
+-- all samples of those that are, in order
+abbrev pub wanted_samples : RenderAsk → List Profile → List Sample
+wanted_samples what profiles = flat_map (λ profile. profile.values) (filter (is_wanted what) profiles)
 
 -- the sums with these samples added in turn
 abbrev pub with_samples : List Sample → List Sample → List Sample

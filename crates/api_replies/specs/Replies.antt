@@ -1,88 +1,108 @@
 -- The replies, down to their bodies.
-use Rattle.std.specs.Prelude.{◌≡◌, ◌⊎◌, ℕ, Bool, true, List, [], filter, nat_eq, codes, Option, Some, None}
+use Rattle.std.specs.Prelude.{◌≡◌, ◌⊎◌, ◌&&◌, ℕ, Bool, List, [], filter, nat_eq, codes, Some, None}
 use Rattle.std.specs.Cmp.Lexicographic.{pointwise}
 use Rattle.http_session.specs.Asked.{Asked}
-use Rattle.http_session.specs.declared.bad_request.BadRequest.{BadRequest}
-use Rattle.http_session.specs.declared.bad_request.BadRequest.TheVariants.{Malformed, HeadTooLarge, BodyTooLarge, Chunked, CutOff}
 use Rattle.http_session.specs.declared.reply.Reply.{Reply}
-use Rattle.http_session.specs.declared.reply.Status.{Status}
 use Rattle.http_session.specs.declared.reply.Status.TheVariants as status
+use Rattle.http_session.specs.declared.reply.Text.{Text}
 use Rattle.http_session.specs.declared.reply.Text.TheVariants.{Json, Plain}
-use Rattle.folded_reader.specs.Faults.{code_of, place_of}
 use Rattle.folded_reader.specs.Written.{written_text}
+use Rattle.label_queries.specs.Labels.{label_sets_of, label_names_of, label_values_of, series_of}
+use Rattle.label_queries.specs.Texts.{names_data, series_data}
+use Rattle.profile_model.specs.LabelSets.{Label}
 use Rattle.profile_model.specs.History.{front_of, rows_of, sums_of_rows}
 use Rattle.profile_model.specs.ReadKinds.{parts_in}
 use Rattle.profile_model.specs.declared.kind.ProfileType.{ProfileType}
 use Rattle.profile_model.specs.declared.profile.Profile.{Profile}
 use Rattle.profile_model.specs.declared.push.Push.{Push}
-use Rattle.api_replies.specs.FaultBodies.{named_body, placed_body, coded_body, limit_body}
+use Rattle.selector.specs.Matching.{matches}
+use Rattle.serde_json.specs.Written.{compact_text}
+use Rattle.api_replies.specs.FaultBodies.{limit_body}
 use Rattle.api_replies.specs.Meanings.{IsAsk, IsRefused, IsWrite}
+use Rattle.api_replies.specs.Refusals.{reply_for_memory, reply_for_refusal}
 use Rattle.api_replies.specs.declared.answered.Answered.{Answered}
 use Rattle.api_replies.specs.declared.answered.Answered.TheVariants as answered
 use Rattle.api_replies.specs.declared.ask.Ask.{Ask}
+use Rattle.api_replies.specs.declared.ask.Ask.TheVariants as ask
+use Rattle.api_replies.specs.declared.ask.LabelAsk.{LabelAsk}
+use Rattle.api_replies.specs.declared.ask.LabelQuery.{LabelQuery}
+use Rattle.api_replies.specs.declared.ask.LabelQuery.TheVariants.{Names, Values, Series}
+use Rattle.api_replies.specs.declared.ask.RenderAsk.{RenderAsk}
+use Rattle.api_replies.specs.declared.form.PushForm.{PushForm}
+use Rattle.api_replies.specs.declared.form.PushForm.TheVariants as written
 use Rattle.api_replies.specs.declared.refusal.Refusal.{Refusal}
-use Rattle.api_replies.specs.declared.refusal.Refusal.TheVariants.{Unbuilt, NoTenant, BadTenant, Folded, Memory}
 use Rattle.api_replies.specs.declared.verdict.FirstVerdict.{FirstVerdict}
 use Rattle.api_replies.specs.declared.verdict.FirstVerdict.TheVariants as verdict
 
--- a refusal: JSON, and no front
-abbrev pub refusing : Status → List ℕ → ℕ → Bool → Reply
-refusing with body now close = record { status = with; text = Json; body = body; allow = None; front = None; now = now; close = close }
+-- an answer of this kind of text, and the front that it counts
+abbrev pub answering : Text → List ℕ → ℕ → ℕ → Bool → Reply
+answering text body front now close = record { status = status.Ok; text = text; body = body; allow = None; front = Some front; now = now; close = close }
 
--- an answer in plain text, and the front that it counts
-abbrev pub answering : List ℕ → ℕ → ℕ → Bool → Reply
-answering body front now close = record { status = status.Ok; text = Plain; body = body; allow = None; front = Some front; now = now; close = close }
+-- ---- writes
 
-abbrev pub reply_for_memory : ℕ → Bool → Reply
-reply_for_memory = refusing status.InternalServerError (named_body (codes "memory"))
+-- an ingest is answered by an empty text, and a JSON push by an empty object
+abbrev pub kept_text : PushForm → Text
+kept_text written.Ingest = Plain
+kept_text written.Json = Json
 
--- a fault of reading, by its code and its place; want of memory has no code
-abbrev pub reply_for_fault : Option (List ℕ) → Option ℕ → ℕ → Bool → Reply
-reply_for_fault None place = reply_for_memory
-reply_for_fault (Some code) place = refusing status.BadRequest (coded_body code place)
+abbrev pub kept_body : PushForm → List ℕ
+kept_body written.Ingest = []
+kept_body written.Json = codes "{}"
 
-abbrev pub reply_for_refusal : Refusal → ℕ → Bool → Reply
-reply_for_refusal Unbuilt = refusing status.NotImplemented (named_body (codes "unbuilt"))
-reply_for_refusal NoTenant = refusing status.Unauthorized (named_body (codes "tenant"))
-reply_for_refusal (BadTenant at) = refusing status.BadRequest (placed_body (codes "T1") at)
-reply_for_refusal (Folded fault) = reply_for_fault (code_of fault) (place_of fault)
-reply_for_refusal Memory = reply_for_memory
+abbrev pub reply_for_kept : PushForm → ℕ → ℕ → Bool → Reply
+reply_for_kept form = answering (kept_text form) (kept_body form)
 
--- the last reply of a connection whose bytes are no request, and none where they were cut off
-abbrev pub last_reply : BadRequest → ℕ → Option Reply
-last_reply Malformed now = Some (refusing status.BadRequest (named_body (codes "H1")) now true)
-last_reply HeadTooLarge now = Some (reply_for_refusal Unbuilt now true)
-last_reply BodyTooLarge now = Some (reply_for_refusal Unbuilt now true)
-last_reply Chunked now = Some (reply_for_refusal Unbuilt now true)
-last_reply CutOff now = None
-
--- the reply that tells what became of a push
-abbrev pub reply_for_verdict : FirstVerdict → ℕ → Bool → Reply
-reply_for_verdict (verdict.Kept front) now close = answering [] front now close
-reply_for_verdict (verdict.OverLimit kept push limit front) now close =
+abbrev pub reply_for_verdict : FirstVerdict → PushForm → ℕ → Bool → Reply
+reply_for_verdict (verdict.Kept front) form now close = reply_for_kept form front now close
+reply_for_verdict (verdict.OverLimit kept push limit front) form now close =
     record { status = status.UnprocessableContent; text = Json; body = limit_body push kept limit; allow = None; front = Some front; now = now; close = close }
-reply_for_verdict verdict.Memory now close = reply_for_memory now close
+reply_for_verdict verdict.Memory form now close = reply_for_memory now close
+
+-- ---- renders
 
 -- the five parts are the same
 abbrev pub same_kind : ProfileType → ProfileType → Bool
 same_kind one other = pointwise (pointwise nat_eq) (parts_in one) (parts_in other)
 
--- the profiles that a query asks for, over all the tenant's pushes of a history
-abbrev pub asked_rows : List Push → Ask → List Profile
-asked_rows history ask =
-    filter (λ profile. same_kind profile.kind ask.kind) (rows_of history ask.tenant (front_of history ask.tenant) ask.from_ms ask.until_ms)
+-- the profile has the query's type, and its labels match
+abbrev pub is_matched : RenderAsk → Profile → Bool
+is_matched what profile = same_kind profile.kind what.query.kind && matches what.query.selector profile.labels profile.kind
 
--- the answer to a query over a history: its folded text, and the tenant's front
-abbrev pub rendered : List Push → Ask → ℕ → Bool → Reply
-rendered history ask = answering (written_text (sums_of_rows (asked_rows history ask))) (front_of history ask.tenant)
+-- the profiles that a render asks for, over all the tenant's pushes of a history
+abbrev pub asked_rows : List Push → RenderAsk → List Profile
+asked_rows history what =
+    filter (is_matched what) (rows_of history what.tenant (front_of history what.tenant) what.from_ms what.until_ms)
+
+-- the folded text of what they come to
+abbrev pub rendered : List Push → RenderAsk → List ℕ
+rendered history what = written_text (sums_of_rows (asked_rows history what))
+
+-- ---- labels, as compact JSON
+
+-- the label sets of the profiles that match, over all the tenant's pushes of a history
+abbrev pub asked_sets : List Push → LabelAsk → List (List Label)
+asked_sets history what =
+    label_sets_of what.selectors.items (rows_of history what.tenant (front_of history what.tenant) what.from_ms what.until_ms)
+
+abbrev pub listed : LabelQuery → List (List Label) → List ℕ
+listed Names sets = compact_text (names_data (label_names_of sets))
+listed (Values name) sets = compact_text (names_data (label_values_of name sets))
+listed (Series names) sets = compact_text (series_data (series_of names.items sets))
+
+-- ---- all of it
+
+-- the answer to a query over a history, and the tenant's front
+abbrev pub answer_to : List Push → Ask → ℕ → Bool → Reply
+answer_to history (ask.Render what) = answering Plain (rendered history what) (front_of history what.tenant)
+answer_to history (ask.Labels what) = answering Json (listed what.query (asked_sets history what)) (front_of history what.tenant)
 
 -- A request over a history has this reply, at its own moment. Of a query too, want of memory is a refusal.
 abbrev pub IsReply : Bool → Asked → List Push → Reply → Type 0
 IsReply single asked history reply =
     ((refusal : Refusal) × IsRefused single asked refusal × (reply ≡ reply_for_refusal refusal asked.moment asked.close))
-    ⊎ ((ask : Ask) × IsAsk single asked ask × (reply ≡ rendered history ask asked.moment asked.close))
+    ⊎ ((what : Ask) × IsAsk single asked what × (reply ≡ answer_to history what asked.moment asked.close))
 
 -- what is answered: that reply, or the write that the request is
 abbrev pub IsAnswer : Bool → Asked → List Push → Answered → Type 0
 IsAnswer single asked history (answered.Reply reply) = IsReply single asked history reply
-IsAnswer single asked history (answered.Push push) = IsWrite single asked push
+IsAnswer single asked history (answered.Push form push) = IsWrite single asked form push

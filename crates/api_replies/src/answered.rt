@@ -1,10 +1,13 @@
 // The reply to a request over a history, or the write that it asks for.
 ghost use Rattle.std.specs.Prelude.{◌≡◌, ◌⊎◌};
 ghost use Rattle.profile_model.specs.History.{HasBoundedTotals};
-ghost use Rattle.api_replies.specs.Replies.{IsAnswer, answering, rendered, reply_for_memory};
+ghost use Rattle.api_replies.specs.Refusals.{reply_for_memory};
+ghost use Rattle.api_replies.specs.Replies.{IsAnswer, answer_to, answering};
 
 use crate::ask::Ask;
 use crate::config::Config;
+use crate::form::PushForm;
+use crate::labels::listed_text;
 use crate::meaning::{Meaning, meaning_of};
 use crate::refusal::memory_reply;
 use crate::render::folded_text;
@@ -17,7 +20,7 @@ use std::alloc::Global;
 pub enum Answered {
     Reply(Reply),
     /// A write request that was read without fault.
-    Push(Push),
+    Push(PushForm, Push),
 }
 
 /// The reply to a request over the pushes that were accepted before it, or its push.
@@ -26,36 +29,43 @@ pub fn answer(alloc: Global, request: &Request, history: &[Push], config: &Confi
     ensures answer { IsAnswer config.now.single_tenant request.now history.now result }
 {
     match meaning_of(alloc, request, config) {
-        Ok(Meaning::Write(push)) => Answered::Push(push),
-        Ok(Meaning::Render(ask)) => Answered::Reply(render(alloc, request, history, &ask)),
+        Ok(Meaning::Write(form, push)) => Answered::Push(form, push),
+        Ok(Meaning::Query(ask)) => Answered::Reply(answer_query(alloc, request, history, ask)),
         Err(refusal) => Answered::Reply(refusal.reply(request.moment(), request.close())),
     }
 }
 
-fn render(alloc: Global, request: &Request, history: &[Push], ask: &Ask) -> Reply
+fn answer_query(alloc: Global, request: &Request, history: &[Push], ask: Ask) -> Reply
     requires { HasBoundedTotals history.now }
-    ensures { (result ≡ rendered history.now ask.now request.now.moment request.now.close)
+    ensures { (result ≡ answer_to history.now ask request.now.moment request.now.close)
         ⊎ (result ≡ reply_for_memory request.now.moment request.now.close) }
 {
     let (now, close) = (request.moment(), request.close());
-    match folded_text(alloc, history, ask) {
-        Ok(text) => plain(
-            Body::from_vec(text),
-            front(history, &ask.tenant),
-            now,
-            close,
-        ),
-        Err(_) => memory_reply(now, close),
+    match ask {
+        Ask::Render(mut ask) => match folded_text(alloc, history, &mut ask) {
+            Ok(text) => {
+                let front = front(history, &ask.tenant);
+                answering(Text::Plain, Body::from_vec(text), front, now, close)
+            }
+            Err(_) => memory_reply(now, close),
+        },
+        Ask::Labels(ask) => {
+            let front = front(history, &ask.tenant);
+            match listed_text(alloc, history, ask) {
+                Ok(text) => answering(Text::Json, Body::from_vec(text), front, now, close),
+                Err(_) => memory_reply(now, close),
+            }
+        }
     }
 }
 
-/// An answer in plain text that counts so many pushes.
-pub(crate) fn plain(body: Body, front: u64, now: u64, close: bool) -> Reply
-    ensures { result ≡ answering body front now close }
+/// An answer that counts so many pushes.
+pub(crate) fn answering(text: Text, body: Body, front: u64, now: u64, close: bool) -> Reply
+    ensures { result ≡ answering text body front now close }
 {
     Reply {
         status: Status::Ok,
-        text: Text::Plain,
+        text,
         body,
         allow: None,
         front: Some(front),

@@ -1,26 +1,41 @@
 // What a query asks for.
-ghost use Rattle.std.specs.Prelude.{◌≡◌};
-ghost use Rattle.api_replies.specs.Rendering.{is_wanted};
+use profile_model::{Name, Tenant};
+use selector::{Query, Selector};
 
-use profile_model::{Profile, ProfileType, Tenant};
-
-/// A tenant's profiles of one type in a closed window of time.
+/// A query over a tenant's profiles in a closed window of time.
 #[derive(Drop)]
-pub(crate) struct Ask {
+pub(crate) enum Ask {
+    Render(RenderAsk),
+    Labels(LabelAsk),
+}
+
+/// The stacks of the profiles that a query matches.
+#[derive(Drop)]
+pub(crate) struct RenderAsk {
     pub tenant: Tenant,
-    pub kind: ProfileType,
+    pub query: Query,
     /// Milliseconds since 1970.
     pub from_ms: u64,
     pub until_ms: u64,
 }
 
-impl Ask {
-    /// Whether the profile has the type and stands in the window.
-    pub(crate) fn wants(&self, profile: &Profile) -> bool
-        ensures { result ≡ is_wanted self.now profile.now }
-    {
-        self.from_ms <= profile.time_ms
-            && profile.time_ms <= self.until_ms
-            && profile.kind == self.kind
-    }
+/// The labels of the profiles that match any of the selectors, of all where there are none.
+#[derive(Drop)]
+pub(crate) struct LabelAsk {
+    pub tenant: Tenant,
+    pub query: LabelQuery,
+    pub selectors: Vec<Selector>,
+    /// Milliseconds since 1970.
+    pub from_ms: u64,
+    pub until_ms: u64,
+}
+
+/// What is listed.
+#[derive(Drop)]
+pub(crate) enum LabelQuery {
+    Names,
+    /// The values of this label.
+    Values(Name),
+    /// The label sets, cut to these labels where there are any.
+    Series(Vec<Name>),
 }

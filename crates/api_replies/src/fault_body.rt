@@ -1,6 +1,6 @@
 // The bodies of refusals: compact JSON, keys ascending. They take no memory.
-ghost use Rattle.std.specs.Prelude.{◌≡◌, ◌+◌, ◌≤◌, ◌++◌, length, decimal};
-ghost use Rattle.api_replies.specs.FaultBodies.{coded_body, limit_body, named_body, placed_body, placeless_body};
+ghost use Rattle.std.specs.Prelude.{◌≡◌, ◌+◌, ◌*◌, ◌≤◌, ◌++◌, length, decimal};
+ghost use Rattle.api_replies.specs.FaultBodies.{limit_body, named_body, placed_body, place_text};
 
 use arrayvec::ArrayString;
 use http_session::Body;
@@ -21,41 +21,52 @@ pub(crate) fn named(code: &str) -> Body
     Body::kept(text.as_str().as_bytes())
 }
 
-/// `{"fault":"CODE","place":[]}`
-pub(crate) fn placeless(code: &str) -> Body
-    requires { length code.now ≤ 100 }
-    ensures { result ≡ placeless_body code.now }
-{
-    let mut text = ArrayString::<ROOM>::new();
-    append(&mut text, "{\"fault\":\"");
-    append(&mut text, code);
-    append(&mut text, "\",\"place\":[]}");
-    Body::kept(text.as_str().as_bytes())
-}
-
-/// `{"fault":"CODE","place":[AT]}`
-pub(crate) fn placed(code: &str, at: u64) -> Body
-    requires { length code.now ≤ 100 }
-    ensures { result ≡ placed_body code.now at }
+/// `{"fault":"CODE","place":[A,B,..]}`, with at most three numbers.
+pub(crate) fn placed(code: &str, place: &[u64]) -> Body
+    requires code { length code.now ≤ 100 }
+    requires few { length place.now ≤ 3 }
+    ensures { result ≡ placed_body code.now place.now }
 {
     let mut text = ArrayString::<ROOM>::new();
     append(&mut text, "{\"fault\":\"");
     append(&mut text, code);
     append(&mut text, "\",\"place\":[");
-    append(&mut text, Buffer::new().format(at));
+    append_numbers(&mut text, place);
     append(&mut text, "]}");
     Body::kept(text.as_str().as_bytes())
 }
 
-/// A code with its place, where it has one.
-pub(crate) fn coded(code: &str, place: Option<u64>) -> Body
-    requires { length code.now ≤ 100 }
-    ensures { result ≡ coded_body code.now place }
+// The numbers, with a comma between each two.
+fn append_numbers(text: &mut ArrayString<ROOM>, numbers: &[u64])
+    requires few { length numbers.now ≤ 3 }
+    requires room { length text.old.bytes + 63 ≤ 256 }
+    ensures bytes { text.new.bytes ≡ text.old.bytes ++ place_text numbers.now }
+    ensures room { length text.new.bytes ≤ length text.old.bytes + 63 }
 {
-    match place {
-        Some(at) => placed(code, at),
-        None => placeless(code),
+    match numbers {
+        [] => {}
+        [first] => append_number(text, *first),
+        [first, second] => {
+            append_number(text, *first);
+            append(text, ",");
+            append_number(text, *second);
+        }
+        [first, second, third, ..] => {
+            append_number(text, *first);
+            append(text, ",");
+            append_number(text, *second);
+            append(text, ",");
+            append_number(text, *third);
+        }
     }
+}
+
+fn append_number(text: &mut ArrayString<ROOM>, number: u64)
+    requires { length text.old.bytes + 20 ≤ 256 }
+    ensures bytes { text.new.bytes ≡ text.old.bytes ++ decimal number }
+    ensures room { length text.new.bytes ≤ length text.old.bytes + 20 }
+{
+    append(text, Buffer::new().format(number));
 }
 
 /// `{"asked":PUSH,"fault":"limit","kept":KEPT,"limit":LIMIT}`

@@ -5,15 +5,20 @@ mod answered;
 mod ask;
 mod config;
 mod fault_body;
-mod ingest;
+mod form;
+mod label_form;
+mod labels;
 mod meaning;
 mod refusal;
 mod render;
+mod render_form;
+mod task;
 #[cfg(test)]
 mod tests;
 mod verdict;
 
 pub use answered::{Answered, answer};
 pub use config::Config;
+pub use form::PushForm;
 pub use refusal::{closing_reply, memory_reply};
 pub use verdict::{FirstVerdict, acknowledge};

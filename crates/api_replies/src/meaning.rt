@@ -1,34 +1,32 @@
-// What a request means, or the first refusal of it.
-ghost use Rattle.std.specs.Prelude.{◌≡◌, MatchResult, option_map};
-ghost use Rattle.api_replies.specs.Forms.{folded_query, has_unbuilt_form, is_coded, is_folded_format, kind_text, route_of, tenant_of};
-ghost use Rattle.query_parameters.specs.Parameters.{pair_of, pairs_of};
-ghost use Rattle.api_replies.specs.Meanings.{IsAskRefused, IsRefused, Means, SaysAsk};
+// What a request asks for, or its first refusal.
+ghost use Rattle.std.specs.Prelude.{◌≡◌, ◌≢◌, IfErr, IfOk, MatchResult, Some, option_map};
+ghost use Rattle.api_replies.specs.Forms.{is_coded, is_encoded, task_at, task_of, tenant_of};
+ghost use Rattle.api_replies.specs.Meanings.{IsMisrouted, IsPushedFault, IsRefused, IsTaskFault, IsWriteFault, Means, MeansTask, OrMemory};
+ghost use Rattle.ingest.specs.Ingests.{SaysProfiles};
+ghost use Rattle.json_push.specs.Pushed.{SaysPushed};
+ghost use Rattle.query_parameters.specs.Parameters.{pairs_of, parameters_of};
 
 use crate::ask::Ask;
 use crate::config::Config;
-use crate::ingest::read_ingest;
+use crate::form::PushForm;
+use crate::label_form::read_label_ask;
 use crate::refusal::Refusal;
-use http_session::{Method, Request};
-use profile_model::{ProfileType, Push, Tenant, TypeFault, wrong_tenant_byte};
+use crate::render_form::read_render;
+use crate::task::{LabelMethod, Task};
+use http_session::Request;
+use ingest::{IngestFault, read_ingest};
+use json_push::{PushFault, read_push};
+use profile_model::{Push, Tenant, wrong_tenant_byte};
 use query_parameters::{Parameter, read_parameters};
+use routes::{Found, Route};
 use std::alloc::Global;
 
 /// What is to be done.
 #[derive(Drop)]
 pub(crate) enum Meaning {
-    Write(Push),
-    Render(Ask),
+    Write(PushForm, Push),
+    Query(Ask),
 }
-
-// The routes that are built.
-#[derive(Clone, Copy)]
-enum Route {
-    Ingest,
-    Render,
-}
-
-/// A render without a window takes the last hour.
-const HOUR_MS: u64 = 3_600_000;
 
 /// What the request means. Refusals come in their order, the first that holds.
 pub(crate) fn meaning_of(
@@ -39,37 +37,124 @@ pub(crate) fn meaning_of(
     ensures { MatchResult result
         (Means config.now.single_tenant request.now) (IsRefused config.now.single_tenant request.now) }
 {
-    let Some(route) = route_of(request) else {
-        return Err(Refusal::Unbuilt);
-    };
+    let task = task_at(request, config)?;
     let Some(name) = tenant_name(request, config) else {
         return Err(Refusal::NoTenant);
     };
     if let Some(at) = wrong_tenant_byte(name) {
         return Err(Refusal::BadTenant(at));
     }
-    if has_unbuilt_form(request) {
+    if is_encoded(request) {
+        return Err(Refusal::Encoded);
+    }
+    if request.asked().is_some() {
         return Err(Refusal::Unbuilt);
     }
-    let Ok(tenant) = Tenant::read(alloc, name) else {
-        return Err(Refusal::Memory);
-    };
-    let Ok(parameters) = read_parameters(alloc, request.query()) else {
-        return Err(Refusal::Memory);
-    };
-    match route {
-        Route::Ingest => Ok(Meaning::Write(read_ingest(alloc, tenant, request, &parameters)?)),
-        Route::Render => Ok(Meaning::Render(read_render(alloc, tenant, request, &parameters)?)),
+    match Tenant::read(alloc, name) {
+        Ok(tenant) => meaning_of_task(alloc, request, task, tenant),
+        Err(_) => Err(Refusal::Memory),
     }
 }
 
-fn route_of(request: &Request) -> Option<Route>
-    ensures { result ≡ route_of request.now }
+// What the method and the path name, where it is built.
+fn task_at(request: &Request, config: &Config) -> Result<Task, Refusal>
+    ensures { MatchResult result (λ task. task_at request.now ≡ Some task) (IsMisrouted request.now) }
 {
-    match request.method() {
-        Method::Post if request.path() == b"/ingest".as_slice() => Some(Route::Ingest),
-        Method::Get if request.path() == b"/pyroscope/render".as_slice() => Some(Route::Render),
+    match config.routes.find(request.method(), request.path()) {
+        Found::Route(route) => match task_of(route) {
+            Some(task) => Ok(task),
+            None => Err(Refusal::Unbuilt),
+        },
+        Found::WrongMethod(allow) => Err(Refusal::WrongMethod(allow)),
+        Found::NoRoute => Err(Refusal::NoRoute),
+    }
+}
+
+fn task_of(route: Route) -> Option<Task>
+    ensures { result ≡ task_of route }
+{
+    match route {
+        Route::Ingest => Some(Task::Ingest),
+        Route::Push => Some(Task::Push),
+        Route::Render => Some(Task::Render),
+        Route::LabelNames => Some(Task::Labels(LabelMethod::Names)),
+        Route::LabelValues => Some(Task::Labels(LabelMethod::Values)),
+        Route::Series => Some(Task::Labels(LabelMethod::Series)),
         _ => None,
+    }
+}
+
+// The parameters and the body, read for the task.
+fn meaning_of_task(
+    alloc: Global,
+    request: &Request,
+    task: Task,
+    tenant: Tenant,
+) -> Result<Meaning, Refusal>
+    ensures { MatchResult result (MeansTask request.now task tenant) (OrMemory (IsTaskFault request.now task)) }
+{
+    match task {
+        Task::Ingest => {
+            let push = read_ingested(alloc, request, tenant)?;
+            Ok(Meaning::Write(PushForm::Ingest, push))
+        }
+        Task::Push => {
+            let push = read_pushed(alloc, request, tenant)?;
+            Ok(Meaning::Write(PushForm::Json, push))
+        }
+        Task::Render => {
+            let parameters = parameters_of(alloc, request)?;
+            let ask = read_render(alloc, tenant, &parameters, request.moment())?;
+            Ok(Meaning::Query(Ask::Render(ask)))
+        }
+        Task::Labels(method) => {
+            let ask = read_label_ask(alloc, tenant, method, request.body())?;
+            Ok(Meaning::Query(Ask::Labels(ask)))
+        }
+    }
+}
+
+fn parameters_of(alloc: Global, request: &Request) -> Result<Vec<Parameter>, Refusal>
+    ensures ok { IfOk result (λ parameters. pairs_of parameters.items ≡ parameters_of request.now.query) }
+    ensures err { IfErr result (λ refusal. refusal ≡ Refusal.Memory) }
+{
+    match read_parameters(alloc, request.query()) {
+        Ok(parameters) => Ok(parameters),
+        Err(_) => Err(Refusal::Memory),
+    }
+}
+
+fn read_ingested(alloc: Global, request: &Request, tenant: Tenant) -> Result<Push, Refusal>
+    ensures { MatchResult result
+        (λ push. (push.tenant ≡ tenant) × SaysProfiles (parameters_of request.now.query) request.now.body request.now.moment push.profiles)
+        (OrMemory (IsWriteFault request.now)) }
+{
+    let parameters = parameters_of(alloc, request)?;
+    match read_ingest(alloc, tenant, &parameters, request.body(), request.moment()) {
+        Ok(push) => Ok(push),
+        Err(fault) => Err(ingest_refusal(fault)),
+    }
+}
+
+fn ingest_refusal(fault: IngestFault) -> Refusal
+    ensures memory { fault ≡ IngestFault.Memory → result ≡ Refusal.Memory }
+    ensures other { fault ≢ IngestFault.Memory → result ≡ Refusal.Ingest fault }
+{
+    match fault {
+        IngestFault::Memory => Refusal::Memory,
+        fault => Refusal::Ingest(fault),
+    }
+}
+
+fn read_pushed(alloc: Global, request: &Request, tenant: Tenant) -> Result<Push, Refusal>
+    ensures { MatchResult result
+        (λ push. (push.tenant ≡ tenant) × SaysPushed request.now.body request.now.moment push.profiles)
+        (OrMemory (IsPushedFault request.now)) }
+{
+    match read_push(alloc, tenant, request.body(), request.moment()) {
+        Ok(push) => Ok(push),
+        Err(PushFault::Memory) => Err(Refusal::Memory),
+        Err(fault) => Err(Refusal::Push(fault)),
     }
 }
 
@@ -84,13 +169,11 @@ fn tenant_name<'r>(request: &'r Request, config: &Config) -> Option<&'r [u8]>
     }
 }
 
-// A coding, a compressed body or a front, which aren't read yet.
-fn has_unbuilt_form(request: &Request) -> bool
-    ensures { result ≡ has_unbuilt_form request.now }
+// A body that isn't read as it is: coded, or beginning as gzip does.
+fn is_encoded(request: &Request) -> bool
+    ensures { result ≡ is_encoded request.now }
 {
-    is_coded(request.encoding())
-        || request.body().starts_with(b"\x1f\x8b")
-        || request.asked().is_some()
+    is_coded(request.encoding()) || request.body().starts_with(b"\x1f\x8b")
 }
 
 // A coding other than `identity`.
@@ -100,66 +183,5 @@ fn is_coded(coding: Option<&[u8]>) -> bool
     match coding {
         Some(name) => !name.eq_ignore_ascii_case(b"identity"),
         None => false,
-    }
-}
-
-// The one query and the one format, in either order.
-fn read_render(
-    alloc: Global,
-    tenant: Tenant,
-    request: &Request,
-    parameters: &[Parameter],
-) -> Result<Ask, Refusal>
-    ensures { MatchResult result
-        (λ ask. (ask.tenant ≡ tenant) × SaysAsk (pairs_of parameters.now) request.now ask)
-        (IsAskRefused (pairs_of parameters.now)) }
-{
-    let Some(query) = folded_query(parameters) else {
-        return Err(Refusal::Unbuilt);
-    };
-    let Some(text) = kind_text(query) else {
-        return Err(Refusal::Unbuilt);
-    };
-    let kind = match ProfileType::read(alloc, text) {
-        Ok(kind) => kind,
-        Err(TypeFault::NotFiveParts) => return Err(Refusal::Unbuilt),
-        Err(TypeFault::Memory) => return Err(Refusal::Memory),
-    };
-    Ok(Ask {
-        tenant,
-        kind,
-        from_ms: request.moment().saturating_sub(HOUR_MS),
-        until_ms: request.moment(),
-    })
-}
-
-fn folded_query(parameters: &[Parameter]) -> Option<&str>
-    ensures { option_map (λ query. query.now) result ≡ folded_query (pairs_of parameters.now) }
-{
-    let [first, second] = parameters else {
-        return None;
-    };
-    if first.name.as_str() == "query" && is_folded_format(second) {
-        Some(first.value.as_str())
-    } else if is_folded_format(first) && second.name.as_str() == "query" {
-        Some(second.value.as_str())
-    } else {
-        None
-    }
-}
-
-fn is_folded_format(parameter: &Parameter) -> bool
-    ensures { result ≡ is_folded_format (pair_of parameter.now) }
-{
-    parameter.name.as_str() == "format" && parameter.value.as_str() == "folded"
-}
-
-// The type's text, where it stands alone or before empty braces.
-fn kind_text(query: &str) -> Option<&str>
-    ensures { option_map (λ text. text.now) result ≡ kind_text query.now }
-{
-    match query.split_once('{') {
-        Some((kind, rest)) => { if rest == "}" { Some(kind) } else { None } }
-        None => Some(query),
     }
 }

@@ -1,31 +1,40 @@
-// A query's answer over a history.
+// A render's answer over a history.
 ghost use Rattle.std.specs.Prelude.{◌≡◌, ◌≢◌, ◌+◌, ◌^◌, ◌<◌, ◌≤◌, IfOk, OnOk};
 ghost use Rattle.profile_model.specs.Sums.{total_of};
 ghost use Rattle.profile_model.specs.Pushes.{profiles_total};
 ghost use Rattle.profile_model.specs.History.{sums_of_rows, tenant_total};
-ghost use Rattle.folded_reader.specs.Written.{written_text};
-ghost use Rattle.api_replies.specs.Rendering.{wanted_samples, with_samples};
-ghost use Rattle.api_replies.specs.Replies.{asked_rows};
+ghost use Rattle.api_replies.specs.Rendering.{is_wanted, wanted_samples, with_samples};
+ghost use Rattle.api_replies.specs.Replies.{asked_rows, rendered};
 
-use crate::ask::Ask;
+use crate::ask::RenderAsk;
 use folded_reader::write_folded;
 use profile_model::{AddFault, Profile, Push, StackSums};
-use std::alloc::Global;
+use std::alloc::{AllocError, Global};
 
 /// What the profiles that are asked for come to, as folded text.
-pub(crate) fn folded_text(alloc: Global, history: &[Push], ask: &Ask) -> Result<Vec<u8>, AddFault>
-    requires { tenant_total history.now ask.now.tenant < 2 ^ 63 }
-    ensures ok { IfOk result (λ text. text.items ≡ written_text (sums_of_rows (asked_rows history.now ask.now))) }
+pub(crate) fn folded_text(
+    alloc: Global,
+    history: &[Push],
+    ask: &mut RenderAsk,
+) -> Result<Vec<u8>, AddFault>
+    requires { tenant_total history.now ask.old.tenant < 2 ^ 63 }
+    ensures ok { IfOk result (λ text. text.items ≡ rendered history.now ask.old) }
     ensures err { result ≢ Err AddFault.Sum }
+    ensures unchanged { ask.new ≡ ask.old }
 {
     let sums = sums_of_history(alloc, history, ask)?;
     write_folded(alloc, &sums).map_err(|_| AddFault::Memory)
 }
 
-fn sums_of_history(alloc: Global, history: &[Push], ask: &Ask) -> Result<StackSums, AddFault>
-    requires { tenant_total history.now ask.now.tenant < 2 ^ 63 }
-    ensures ok { IfOk result (λ sums. sums ≡ sums_of_rows (asked_rows history.now ask.now)) }
+fn sums_of_history(
+    alloc: Global,
+    history: &[Push],
+    ask: &mut RenderAsk,
+) -> Result<StackSums, AddFault>
+    requires { tenant_total history.now ask.old.tenant < 2 ^ 63 }
+    ensures ok { IfOk result (λ sums. sums ≡ sums_of_rows (asked_rows history.now ask.old)) }
     ensures err { result ≢ Err AddFault.Sum }
+    ensures unchanged { ask.new ≡ ask.old }
 {
     let mut sums = StackSums::new(alloc);
     for push in history {
@@ -36,18 +45,40 @@ fn sums_of_history(alloc: Global, history: &[Push], ask: &Ask) -> Result<StackSu
     Ok(sums)
 }
 
-fn add_profiles(sums: &mut StackSums, profiles: &[Profile], ask: &Ask) -> Result<(), AddFault>
+fn add_profiles(
+    sums: &mut StackSums,
+    profiles: &[Profile],
+    ask: &mut RenderAsk,
+) -> Result<(), AddFault>
     requires { total_of sums.old + profiles_total profiles.now < 2 ^ 63 }
-    ensures ok { OnOk result (sums.new ≡ with_samples sums.old (wanted_samples ask.now profiles.now)) }
+    ensures ok { OnOk result (sums.new ≡ with_samples sums.old (wanted_samples ask.old profiles.now)) }
     ensures total { OnOk result (total_of sums.new ≤ total_of sums.old + profiles_total profiles.now) }
     ensures err { result ≢ Err AddFault.Sum }
+    ensures unchanged { ask.new ≡ ask.old }
 {
     for profile in profiles {
-        if ask.wants(profile) {
-            add_values(sums, &profile.values)?;
+        match wants(ask, profile) {
+            Ok(true) => add_values(sums, &profile.values)?,
+            Ok(false) => {}
+            Err(_) => return Err(AddFault::Memory),
         }
     }
     Ok(())
+}
+
+// Whether the profile stands in the window, has the query's type, and matches.
+fn wants(ask: &mut RenderAsk, profile: &Profile) -> Result<bool, AllocError>
+    ensures exact { IfOk result (λ answer. answer ≡ is_wanted ask.old profile.now) }
+    ensures unchanged { ask.new ≡ ask.old }
+{
+    if ask.from_ms <= profile.time_ms
+        && profile.time_ms <= ask.until_ms
+        && profile.kind == ask.query.kind
+    {
+        ask.query.selector.matches(&profile.labels, &profile.kind)
+    } else {
+        Ok(false)
+    }
 }
 
 fn add_values(sums: &mut StackSums, values: &StackSums) -> Result<(), AddFault>

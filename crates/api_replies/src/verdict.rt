@@ -1,9 +1,10 @@
 // The reply to a write, once its fate is settled.
 ghost use Rattle.std.specs.Prelude.{◌≡◌};
-ghost use Rattle.api_replies.specs.Replies.{reply_for_verdict};
+ghost use Rattle.api_replies.specs.Replies.{reply_for_kept, reply_for_verdict};
 
-use crate::answered::plain;
+use crate::answered::answering;
 use crate::fault_body::over_limit;
+use crate::form::PushForm;
 use crate::refusal::memory_reply;
 use http_session::{Body, Reply, Status, Text};
 
@@ -24,11 +25,11 @@ pub enum FirstVerdict {
 }
 
 /// The reply that tells a verdict. It takes no memory.
-pub fn acknowledge(verdict: FirstVerdict, now: u64, close: bool) -> Reply
-    ensures { result ≡ reply_for_verdict verdict now close }
+pub fn acknowledge(verdict: FirstVerdict, form: PushForm, now: u64, close: bool) -> Reply
+    ensures { result ≡ reply_for_verdict verdict form now close }
 {
     match verdict {
-        FirstVerdict::Kept(front) => plain(Body::empty(), front, now, close),
+        FirstVerdict::Kept(front) => kept_reply(front, form, now, close),
         FirstVerdict::OverLimit {
             kept,
             push,
@@ -44,5 +45,15 @@ pub fn acknowledge(verdict: FirstVerdict, now: u64, close: bool) -> Reply
             close,
         },
         FirstVerdict::Memory => memory_reply(now, close),
+    }
+}
+
+// An ingest is answered by an empty text, and a JSON push by an empty object.
+fn kept_reply(front: u64, form: PushForm, now: u64, close: bool) -> Reply
+    ensures { result ≡ reply_for_kept form front now close }
+{
+    match form {
+        PushForm::Ingest => answering(Text::Plain, Body::empty(), front, now, close),
+        PushForm::Json => answering(Text::Json, Body::kept(b"{}"), front, now, close),
     }
 }

@@ -1,5 +1,5 @@
 -- The history only grows.
-use Rattle.std.proofs.Common.{◌≡◌, ◌+◌, ◌++◌, ◌∙◌, Bool, List, [], ◌∷◌, refl, sym, ap, inl, inr, append-nil, append_assoc, true, arith, length-append}
+use Rattle.std.proofs.Common.{◌≡◌, ◌++◌, ◌∙◌, Bool, List, [], ◌∷◌, refl, sym, ap, inl, inr, append-nil, append_assoc, true, arith, length-append}
 use Rattle.std.specs.Prelude.{nat_eq}
 use Rattle.std.specs.Cmp.Lexicographic.{pointwise, nat_list_eq_equiv}
 use Rattle.std.proofs.lemmas.List.Elements.{filter-append}
@@ -26,7 +26,7 @@ settled_grows history next push Memory settled = stays history next settled
 pub exchange_grows : (single : Bool) (asked : Asked) (history next : List Push) (reply : Reply) → IsExchange single asked history reply next
     → (later : List Push) × (next ≡ history ++ later)
 exchange_grows single asked history next reply (inl (is, same)) = stays history next same
-exchange_grows single asked history next reply (inr (push, verdict, write, settled, told)) = settled_grows history next push verdict settled
+exchange_grows single asked history next reply (inr (form, push, verdict, write, settled, told)) = settled_grows history next push verdict settled
 
 -- one history grows to the next, and that to the last
 pub both : (history next final : List Push) → (later : List Push) × (next ≡ history ++ later) → (later : List Push) × (final ≡ next ++ later)

@@ -1,22 +1,22 @@
 -- What an exchange and a whole run say of the history, tenant by tenant.
-use Rattle.std.proofs.Common.{◌≡◌, ◌≢◌, ◌+◌, ◌<◌, ◌≤◌, ◌∙◌, ℕ, zero, suc, Bool, true, false, cond, List, [], ◌∷◌, ◌++◌, length, take, refl, sym, ap, subst, inl, inr, arith, append-nil, append_assoc, length-append}
+use Rattle.std.proofs.Common.{◌≡◌, ◌+◌, ◌<◌, ◌≤◌, ◌∙◌, ℕ, zero, suc, Bool, true, false, cond, List, [], ◌∷◌, ◌++◌, length, take, refl, sym, ap, subst, inl, inr, arith, append_assoc, length-append}
 use Rattle.std.specs.Prelude.{◌⊎◌, filter, Option, Some, None}
 use Rattle.std.proofs.lemmas.List.Elements.{filter-append}
 use Rattle.std.proofs.Math.Seq.{take-append_seam, take-nil}
-use Rattle.http_session.specs.Asked.{Asked}
 use Rattle.http_session.specs.declared.reply.Reply.{Reply}
 use Rattle.http_session.specs.declared.reply.Status.TheVariants.{Ok}
 use Rattle.profile_model.specs.History.{front_of, pushes_of, pushes_total}
 use Rattle.profile_model.specs.declared.push.Push.{Push}
 use Rattle.api_replies.specs.Forms.{tenant_of}
 use Rattle.api_replies.specs.Meanings.{IsWrite}
-use Rattle.api_replies.proofs.ReplyLemmas.{answers_no_write, own_again, reply_alike, shows_its_front}
+use Rattle.api_replies.proofs.ReplyLemmas.{answers_no_write, own_again, reply_alike, shows_its_front, writer_is_named}
+use Rattle.api_replies.specs.declared.form.PushForm.{PushForm}
 use Rattle.api_replies.specs.declared.verdict.FirstVerdict.{FirstVerdict}
 use Rattle.api_replies.specs.declared.verdict.FirstVerdict.TheVariants.{Kept, OverLimit, Memory}
 use Rattle.pyro_server.specs.Given.{Answer}
 use Rattle.pyro_server.specs.Settled.{IsSettled}
 use Rattle.pyro_server.specs.Served.{IsExchange}
-use Rattle.pyro_server.specs.ServedAt.{IsAcknowledged, IsAnsweredAt, IsAnsweredOver, IsAtLeast, IsKept, Shows, StandsAt, own_pushes}
+use Rattle.pyro_server.specs.ServedAt.{IsAcknowledged, IsAnsweredAt, IsAnsweredOver, IsKept, Shows, StandsAt, own_pushes}
 use Rattle.pyro_server.specs.ServedLaws.{AnswersAreIsolated, FrontIsPrefix, RepliesAreIsolated}
 use Rattle.pyro_server.proofs.Growing.{own}
 
@@ -39,9 +39,9 @@ answered_alike : (single : Bool) (history other : List Push) (one : Answer)
     → ((tenant : List ℕ) → tenant_of single one.asked ≡ Some tenant → pushes_of history tenant ≡ pushes_of other tenant)
     → IsAnsweredOver single history one → IsAnsweredOver single other one
 answered_alike single history other one same (next, inl (is, stays)) = (other, inl (reply_alike single one.asked history other one.reply same is, refl))
-answered_alike single history other one same (next, inr (push, verdict, write, settled, told)) =
-    let there = settled_alike history other next push verdict (same push.tenant write.reaches.named) settled in
-    (there.0, inr (push, verdict, write, there.1, told))
+answered_alike single history other one same (next, inr (form, push, verdict, write, settled, told)) =
+    let there = settled_alike history other next push verdict (same push.tenant (writer_is_named single one.asked form push write)) settled in
+    (there.0, inr (form, push, verdict, write, there.1, told))
 
 pub replies_are_isolated : RepliesAreIsolated
 replies_are_isolated single asked history reply =
@@ -121,17 +121,18 @@ front_is_prefix single history one = (
 -- the push that an exchange kept and told so
 abbrev pub Keeps : Bool → List Push → Answer → List Push → Type 0
 Keeps single history one next =
-    (push : Push) × IsWrite single one.asked push × (one.reply.status ≡ Ok) × (one.reply.front ≡ Some (front_of history push.tenant + 1)) × (next ≡ history ++ push ∷ [])
+    (form : PushForm) × (push : Push)
+    × IsWrite single one.asked form push × (one.reply.status ≡ Ok) × (one.reply.front ≡ Some (front_of history push.tenant + 1)) × (next ≡ history ++ push ∷ [])
 
 -- an exchange keeps a push and tells it, or acknowledges none and leaves the history
 pub keeps_or_stays : (single : Bool) (history next : List Push) (one : Answer) → IsExchange single one.asked history one.reply next
     → Keeps single history one next ⊎ ((¬ (IsAcknowledged single one)) × (next ≡ history))
-keeps_or_stays single history next one (inl (is, stays)) = inr (λ (write, ok). answers_no_write single one.asked history one.reply write.0 is write.1 ok, stays)
-keeps_or_stays single history next one (inr (push, Kept front, write, (is, room, kept), told)) =
-    inl (push, write, ap (λ (r : Reply). r.status) told, ap (λ (r : Reply). r.front) told ∙ ap (λ n. Some n) is, kept)
-keeps_or_stays single history next one (inr (push, OverLimit kept adds limit front, write, settled, told)) =
+keeps_or_stays single history next one (inl (is, stays)) = inr (λ (write, ok). answers_no_write single one.asked history one.reply write.0 write.1 is write.2 ok, stays)
+keeps_or_stays single history next one (inr (form, push, Kept front, write, (is, room, kept), told)) =
+    inl (form, push, write, ap (λ (r : Reply). r.status) told, ap (λ (r : Reply). r.front) told ∙ ap (λ n. Some n) is, kept)
+keeps_or_stays single history next one (inr (form, push, OverLimit kept adds limit front, write, settled, told)) =
     inr (λ (write, ok). (let is = ap (λ (r : Reply). r.status) told in cc), settled.5)
-keeps_or_stays single history next one (inr (push, Memory, write, settled, told)) =
+keeps_or_stays single history next one (inr (form, push, Memory, write, settled, told)) =
     inr (λ (write, ok). (let is = ap (λ (r : Reply). r.status) told in cc), settled)
 
 -- a push that was told as kept stands in every later history, behind a base of the one before
@@ -140,8 +141,10 @@ pub kept_stands : (single : Bool) (base middle next later : List Push) (one : An
 kept_stands single base middle next later one exchange acknowledged = by (keeps_or_stays single (base ++ middle) next one exchange)
   where
     by : Keeps single (base ++ middle) one next ⊎ ((¬ (IsAcknowledged single one)) × (next ≡ base ++ middle))
-        → (push : Push) × (place : ℕ) × IsWrite single one.asked push × (one.reply.front ≡ Some (place + 1)) × StandsAt base (next ++ later) push place
-    by (inl (push, write, ok, front, kept)) = (
+        → (form : PushForm) × (push : Push) × (place : ℕ)
+        × IsWrite single one.asked form push × (one.reply.front ≡ Some (place + 1)) × StandsAt base (next ++ later) push place
+    by (inl (form, push, write, ok, front, kept)) = (
+      form,
       push,
       front_of (base ++ middle) push.tenant,
       write,
@@ -184,19 +187,19 @@ between_fronts single history next one tenant front (inl (is, stays)) (named, sh
     let same = one_name own_one.0 tenant (tenant_of single one.asked) own_one.1 named in
     let told : front ≡ front_of history tenant = own_one.2 ∙ ap (front_of history) same in
     let left : front_of next tenant ≡ front_of history tenant = ap (λ (pushes : List Push). front_of pushes tenant) stays in
-    (omega arith, λ (write, ok). absurd (answers_no_write single one.asked history one.reply write.0 is write.1 ok), omega arith)
-between_fronts single history next one tenant front (inr (push, Kept kept_front, write, (is, room, kept), told)) (named, shown) =
-    let same = one_name push.tenant tenant (tenant_of single one.asked) write.reaches.named named in
+    (omega arith, λ (write, ok). absurd (answers_no_write single one.asked history one.reply write.0 write.1 is write.2 ok), omega arith)
+between_fronts single history next one tenant front (inr (form, push, Kept kept_front, write, (is, room, kept), told)) (named, shown) =
+    let same = one_name push.tenant tenant (tenant_of single one.asked) (writer_is_named single one.asked form push write) named in
     let fronts = one_front kept_front front one.reply.front (ap (λ (r : Reply). r.front) told) shown in
     let before : front_of history push.tenant ≡ front_of history tenant = ap (front_of history) same in
     let after : front_of next tenant ≡ front_of history push.tenant + 1 =
     ap (front_of next) (sym same) ∙ ap (λ (pushes : List Push). front_of pushes push.tenant) kept ∙ front_with history push in
     (omega arith, λ acknowledged. omega arith, omega arith)
-between_fronts single history next one tenant front (inr (push, OverLimit kept adds limit old_front, write, (kept_is, adds_is, limit_is, is, over, stays), told)) (named, shown) =
-    let same = one_name push.tenant tenant (tenant_of single one.asked) write.reaches.named named in
+between_fronts single history next one tenant front (inr (form, push, OverLimit kept adds limit old_front, write, (kept_is, adds_is, limit_is, is, over, stays), told)) (named, shown) =
+    let same = one_name push.tenant tenant (tenant_of single one.asked) (writer_is_named single one.asked form push write) named in
     let fronts = one_front old_front front one.reply.front (ap (λ (r : Reply). r.front) told) shown in
     let before : front_of history push.tenant ≡ front_of history tenant = ap (front_of history) same in
     let left : front_of next tenant ≡ front_of history tenant = ap (λ (pushes : List Push). front_of pushes tenant) stays in
     (omega arith, λ (other, ok). (let status = ap (λ (r : Reply). r.status) told in cc), omega arith)
-between_fronts single history next one tenant front (inr (push, Memory, write, stays, told)) (named, shown) =
+between_fronts single history next one tenant front (inr (form, push, Memory, write, stays, told)) (named, shown) =
     let none = ap (λ (r : Reply). r.front) told in cc

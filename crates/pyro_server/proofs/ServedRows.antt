@@ -1,10 +1,10 @@
 -- What `ServedAt` says and rules out, row by row.
-use Rattle.std.proofs.Common.{◌≡◌, ◌+◌, ◌<◌, ◌≤◌, ◌∙◌, ℕ, Bool, true, List, [], ◌∷◌, ◌++◌, length, get_or, refl, sym, ap, arith, length-append}
+use Rattle.std.proofs.Common.{◌≡◌, ◌<◌, ◌∙◌, ℕ, Bool, true, List, [], ◌∷◌, ◌++◌, length, get_or, refl, sym, ap, arith, length-append}
 use Rattle.std.specs.Prelude.{nat_eq}
 use Rattle.std.specs.Cmp.Lexicographic.{pointwise, nat_list_eq_equiv}
 use Rattle.std.proofs.Math.Seq.{get_or-append_seam}
 use Rattle.std.proofs.lemmas.List.Elements.{All-head, filter-append}
-use Rattle.profile_model.specs.History.{front_of, pushes_of}
+use Rattle.profile_model.specs.History.{pushes_of}
 use Rattle.profile_model.specs.declared.push.Push.{Push}
 use Rattle.pyro_server.specs.Given.{Answer}
 use Rattle.pyro_server.specs.ServedAt.{FrontsRise, IsAcknowledged, IsAtLeast, IsKept, Shows, StandsAt}
@@ -37,6 +37,6 @@ no_repeated_front single one other tenant front shown again acknowledged rise =
 -- a push that is told as kept, where the history stayed
 pub no_empty_promise : (single : Bool) (base : List Push) (one : Answer) → IsAcknowledged single one → IsKept single base base one → ⊥
 no_empty_promise single base one acknowledged kept =
-    let stands = (kept acknowledged).4 in
+    let stands = (kept acknowledged).5 in
     let behind = stands.behind in
-    let long = ap length stands.is ∙ length-append stands.before ((kept acknowledged).0 ∷ stands.after) in omega arith
+    let long = ap length stands.is ∙ length-append stands.before ((kept acknowledged).1 ∷ stands.after) in omega arith

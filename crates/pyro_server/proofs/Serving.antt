@@ -1,20 +1,19 @@
 -- How serving one request follows from taking it and giving its reply.
-use Rattle.std.proofs.Common.{◌≡◌, ◌+◌, ◌<◌, ◌∙◌, ℕ, Bool, true, false, List, [], ◌∷◌, ◌++◌, refl, sym, ap, subst, inl, inr, arith, append-nil, append_assoc, min}
-use Rattle.std.specs.Prelude.{◌⊎◌, Option, Some, None}
+use Rattle.std.proofs.Common.{◌≡◌, ◌+◌, ◌∙◌, ℕ, Bool, true, List, [], ◌∷◌, ◌++◌, refl, sym, ap, subst, inl, inr, append-nil}
 use Rattle.http_session.specs.Asked.{Asked}
 use Rattle.http_session.specs.Answers.{AnswerStep}
-use Rattle.http_session.specs.Link.{Told, Goes, Took, Gave}
+use Rattle.http_session.specs.Link.{Told}
 use Rattle.http_session.specs.Reply.{bytes_of_reply}
-use Rattle.http_session.specs.Takes.{IsWhole, IsBad}
+use Rattle.http_session.specs.Takes.{IsWhole}
 use Rattle.http_session.specs.Waiting.{Waiting}
 use Rattle.http_session.specs.declared.bad_request.BadRequest.{BadRequest}
 use Rattle.http_session.specs.declared.reader.NextRequest.TheVariants as answer
 use Rattle.http_session.specs.declared.reply.Reply.{Reply}
 use Rattle.profile_model.specs.declared.push.Push.{Push}
-use Rattle.api_replies.specs.Replies.{last_reply, reply_for_memory}
+use Rattle.api_replies.specs.Refusals.{last_reply, reply_for_memory}
 use Rattle.pyro_server.specs.Given.{EndsWith, bytes_of_last}
 use Rattle.pyro_server.specs.Served.{Exchange, IsExchange}
-use Rattle.pyro_server.specs.Steps.{GaveFront, GivesReply, GivesLast, ServesStep}
+use Rattle.pyro_server.specs.Steps.{GivesReply, GivesLast, ServesStep}
 use Rattle.pyro_server.specs.declared.session.Step.{Step}
 use Rattle.pyro_server.specs.declared.session.Step.TheVariants.{Answered, Ended}
 use Rattle.pyro_server.specs.declared.status.Status.{Status}

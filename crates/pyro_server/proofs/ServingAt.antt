@@ -1,6 +1,6 @@
 -- How a connection that is served in turn is served at the history that it leaves.
-use Rattle.std.proofs.Common.{◌≡◌, ◌+◌, ◌<◌, ◌≤◌, ◌∙◌, ℕ, Bool, true, List, [], ◌∷◌, ◌++◌, length, take, refl, sym, ap, subst, inl, inr, arith, append-nil, append_assoc, length-append}
-use Rattle.std.specs.Prelude.{◌⊎◌, Option}
+use Rattle.std.proofs.Common.{◌≡◌, ◌+◌, ◌≤◌, ◌∙◌, ℕ, Bool, List, [], ◌∷◌, ◌++◌, length, take, refl, sym, ap, subst, inl, inr, arith, append-nil, append_assoc, length-append}
+use Rattle.std.specs.Prelude.{◌⊎◌}
 use Rattle.std.specs.List.{All, flat_map}
 use Rattle.std.proofs.lemmas.List.{take-append-le}
 use Rattle.std.proofs.lemmas.List.Concat.{flat_map-cons}
@@ -12,10 +12,9 @@ use Rattle.profile_model.specs.declared.push.Push.{Push}
 use Rattle.api_replies.specs.Forms.{tenant_of}
 use Rattle.pyro_server.specs.Given.{Answer, Gives}
 use Rattle.pyro_server.specs.Served.{Exchange, InTurn, InTurnAmongOthers, IsExchange, IsServedInTurn, answers_of}
-use Rattle.pyro_server.specs.ServedAt.{FrontsRise, IsAcknowledged, IsAnsweredAt, IsAnsweredOver, IsAtLeast, IsKept, IsServedAt, Shows, StandsAt, own_pushes}
+use Rattle.pyro_server.specs.ServedAt.{FrontsRise, IsAcknowledged, IsAnsweredAt, IsAnsweredOver, IsAtLeast, IsKept, IsServedAt, StandsAt, own_pushes}
 use Rattle.pyro_server.specs.ServedLaws.{AmongOthersIsServed, AreKept, InTurnIsServed, IsAccount, KeepsAccount, StaysServed}
 use Rattle.pyro_server.specs.declared.status.Status.{Status}
-use Rattle.pyro_server.specs.declared.status.Status.TheVariants.{StreamFault}
 use Rattle.pyro_server.proofs.Growing.{both, exchange_grows}
 use Rattle.pyro_server.proofs.Histories.{Keeps, answered_at, between_fronts, front_grows, keeps_or_stays, kept_stands, own-append}
 
@@ -143,7 +142,7 @@ stands_still base history later push place stands = record {
 
 kept_still : (single : Bool) (base history later : List Push) (one : Answer) → IsKept single base history one → IsKept single base (history ++ later) one
 kept_still single base history later one kept acknowledged =
-    let stands = kept acknowledged in (stands.0, stands.1, stands.2, stands.3, stands_still base history later stands.0 stands.1 stands.4)
+    let stands = kept acknowledged in (stands.0, stands.1, stands.2, stands.3, stands.4, stands_still base history later stands.1 stands.2 stands.5)
 
 pub stays_served : StaysServed
 stays_served single moment taken given history later base status at = record {
@@ -167,9 +166,9 @@ served_at single final status before now (took, gave, exchanges, taken, given, s
 one_kept : (single : Bool) (history next final : List Push) (one : Answer) (more : List Answer) (kept rest : List Push)
     → Keeps single history one next ⊎ ((¬ (IsAcknowledged single one)) × (next ≡ history)) → AreKept single more kept → final ≡ next ++ kept ++ rest
     → (all : List Push) × AreKept single (one ∷ more) all × (final ≡ history ++ all ++ rest)
-one_kept single history next final one more kept rest (inl (push, write, ok, front, is)) are ends = (
+one_kept single history next final one more kept rest (inl (form, push, write, ok, front, is)) are ends = (
   push ∷ kept,
-  inl (push, kept, refl, write, ok, are),
+  inl (form, push, kept, refl, write, ok, are),
   ends ∙ ap (λ (front : List Push). (front ++ kept) ++ rest) is ∙ ap (λ (front : List Push). front ++ rest) (append_assoc history (push ∷ []) kept),
 )
 one_kept single history next final one more kept rest (inr (none, stays)) are ends =

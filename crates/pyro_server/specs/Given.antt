@@ -5,7 +5,7 @@ use Rattle.http_session.specs.Reply.{bytes_of_reply}
 use Rattle.http_session.specs.Takes.{IsWhole, IsBetween, IsBad}
 use Rattle.http_session.specs.declared.bad_request.BadRequest.{BadRequest}
 use Rattle.http_session.specs.declared.reply.Reply.{Reply}
-use Rattle.api_replies.specs.Replies.{last_reply, reply_for_memory}
+use Rattle.api_replies.specs.Refusals.{last_reply, reply_for_memory}
 use Rattle.pyro_server.specs.declared.status.Status.{Status}
 use Rattle.pyro_server.specs.declared.status.Status.TheVariants.{Done, NoCommand, NoMemory, StreamFault, LastRequest, BadRequest as Refused}
 

@@ -6,6 +6,7 @@ use Rattle.http_session.specs.declared.reply.Reply.{Reply}
 use Rattle.profile_model.specs.declared.push.Push.{Push}
 use Rattle.api_replies.specs.Meanings.{IsWrite}
 use Rattle.api_replies.specs.Replies.{IsReply, reply_for_verdict}
+use Rattle.api_replies.specs.declared.form.PushForm.{PushForm}
 use Rattle.api_replies.specs.declared.verdict.FirstVerdict.{FirstVerdict}
 use Rattle.pyro_server.specs.Given.{Answer, Gives}
 use Rattle.pyro_server.specs.Settled.{IsSettled}
@@ -16,8 +17,8 @@ use Rattle.pyro_server.specs.declared.status.Status.{Status}
 abbrev pub IsExchange : Bool → Asked → List Push → Reply → List Push → Type 0
 IsExchange single asked history reply next =
     (IsReply single asked history reply × (next ≡ history))
-    ⊎ ((push : Push) × (verdict : FirstVerdict) × IsWrite single asked push × IsSettled history push verdict next
-    × (reply ≡ reply_for_verdict verdict asked.moment asked.close))
+    ⊎ ((form : PushForm) × (push : Push) × (verdict : FirstVerdict) × IsWrite single asked form push × IsSettled history push verdict next
+    × (reply ≡ reply_for_verdict verdict form asked.moment asked.close))
 
 -- a request with its reply, and the history after it
 pub record Exchange : Type 0 where

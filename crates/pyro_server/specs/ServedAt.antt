@@ -2,13 +2,13 @@
 -- is over some front of its tenant's pushes.
 use Rattle.std.specs.Prelude.{◌≡◌, ◌+◌, ◌<◌, ◌≤◌, ℕ, Bool, List, [], ◌∷◌, ◌++◌, length, take, Option, Some, None}
 use Rattle.std.specs.List.{All}
-use Rattle.http_session.specs.Asked.{Asked}
 use Rattle.http_session.specs.Link.{Told}
 use Rattle.http_session.specs.declared.reply.Status.TheVariants.{Ok}
 use Rattle.profile_model.specs.History.{front_of, pushes_of}
 use Rattle.profile_model.specs.declared.push.Push.{Push}
 use Rattle.api_replies.specs.Forms.{tenant_of}
 use Rattle.api_replies.specs.Meanings.{IsWrite}
+use Rattle.api_replies.specs.declared.form.PushForm.{PushForm}
 use Rattle.pyro_server.specs.Given.{Answer, Gives}
 use Rattle.pyro_server.specs.Served.{IsExchange}
 use Rattle.pyro_server.specs.declared.status.Status.{Status}
@@ -34,7 +34,7 @@ IsAnsweredAt single history one =
 
 -- the request is a write, and was answered 200
 abbrev pub IsAcknowledged : Bool → Answer → Type 0
-IsAcknowledged single one = ((push : Push) × IsWrite single one.asked push) × (one.reply.status ≡ Ok)
+IsAcknowledged single one = ((form : PushForm) × (push : Push) × IsWrite single one.asked form push) × (one.reply.status ≡ Ok)
 
 -- the push stands in the history behind its base, and so many pushes of its tenant stand before it
 pub record StandsAt (base history : List Push) (push : Push) (place : ℕ) : Type 0 where
@@ -48,7 +48,8 @@ pub record StandsAt (base history : List Push) (push : Push) (place : ℕ) : Typ
 abbrev pub IsKept : Bool → List Push → List Push → Answer → Type 0
 IsKept single base history one =
     IsAcknowledged single one
-    → (push : Push) × (place : ℕ) × IsWrite single one.asked push × (one.reply.front ≡ Some (place + 1)) × StandsAt base history push place
+    → (form : PushForm) × (push : Push) × (place : ℕ)
+    × IsWrite single one.asked form push × (one.reply.front ≡ Some (place + 1)) × StandsAt base history push place
 
 -- ---- fronts
 

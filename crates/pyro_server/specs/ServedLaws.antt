@@ -10,6 +10,7 @@ use Rattle.profile_model.specs.declared.push.Push.{Push}
 use Rattle.api_replies.specs.Forms.{tenant_of}
 use Rattle.api_replies.specs.Meanings.{IsWrite}
 use Rattle.api_replies.specs.Replies.{IsReply}
+use Rattle.api_replies.specs.declared.form.PushForm.{PushForm}
 use Rattle.api_replies.specs.declared.verdict.FirstVerdict.TheVariants.{Kept}
 use Rattle.pyro_server.specs.Given.{Answer, Gives}
 use Rattle.pyro_server.specs.Settled.{IsSettled}
@@ -82,7 +83,8 @@ FrontIsPrefix =
 abbrev pub AreKept : Bool → List Answer → List Push → Type 0
 AreKept single [] pushes = pushes ≡ []
 AreKept single (one ∷ more) pushes =
-    ((push : Push) × (rest : List Push) × (pushes ≡ push ∷ rest) × IsWrite single one.asked push × (one.reply.status ≡ Ok) × AreKept single more rest)
+    ((form : PushForm) × (push : Push) × (rest : List Push)
+    × (pushes ≡ push ∷ rest) × IsWrite single one.asked form push × (one.reply.status ≡ Ok) × AreKept single more rest)
     ⊎ ((¬ (IsAcknowledged single one)) × AreKept single more pushes)
 
 -- The pushes past the base are, in the order of the requests, the acknowledged ones, and then at most the one

@@ -1,5 +1,5 @@
 -- What serving one request does to a link that tells.
-use Rattle.std.specs.Prelude.{◌≡◌, ◌⊎◌, ℕ, ◌+◌, Bool, true, false, List, [], ◌∷◌, ◌++◌, Result, Ok, Err}
+use Rattle.std.specs.Prelude.{◌≡◌, ◌⊎◌, ℕ, ◌+◌, Bool, List, ◌++◌}
 use Rattle.http_session.specs.Asked.{Asked}
 use Rattle.http_session.specs.Link.{Told, Gave}
 use Rattle.http_session.specs.Reply.{bytes_of_reply}

@@ -1,8 +1,9 @@
 // The top call.
-ghost use Rattle.std.specs.Prelude.{◌≡◌, ◌↔◌, [], false, map, string_bytes};
+ghost use Rattle.std.specs.Prelude.{◌≡◌, ◌↔◌, ◌⊎◌, [], false, map, string_bytes};
 ghost use Rattle.http_session.specs.Link.{Goes, Rose};
 ghost use Rattle.pyro_server.specs.Served.{IsServedInTurn};
 ghost use Rattle.pyro_server.specs.ServedAt.{IsServedAt};
+ghost use Rattle.pyro_server.specs.Statuses.{IsUnstarted};
 ghost use Rattle.pyro_server.specs.Words.{IsSession};
 
 use crate::session::run_session;
@@ -11,6 +12,7 @@ use crate::words::{Command, command_of};
 use api_replies::Config;
 use http_session::Link;
 use profile_model::Push;
+use routes::Routes;
 use std::alloc::Global;
 
 /// How a run ended, with all that was handed in.
@@ -35,10 +37,13 @@ pub fn run<D, L: Link, F, E, G>(
     finish: E,
     _gate: &G,
 ) -> Outcome<D, L, F, E>
-    // What the one word `session` gives is replies over fronts of one history, which is handed back.
-    ensures served { IsSession (map string_bytes words.now) → Goes (IsServedAt false result.history.items [] result.status) (L.told stdio) (L.told result.stdio) }
+    // What the one word `session` gives is replies over fronts of one history, which is handed back; but where
+    // memory ran out at once, nothing was taken or given.
+    ensures served { IsSession (map string_bytes words.now) → IsUnstarted stdio result.stdio result.history.items result.status
+        ⊎ Goes (IsServedAt false result.history.items [] result.status) (L.told stdio) (L.told result.stdio) }
     // More closely, each is over the history that the requests before it left.
-    ensures in_turn { IsSession (map string_bytes words.now) → Goes (IsServedInTurn false result.history.items result.status) (L.told stdio) (L.told result.stdio) }
+    ensures in_turn { IsSession (map string_bytes words.now) → IsUnstarted stdio result.stdio result.history.items result.status
+        ⊎ Goes (IsServedInTurn false result.history.items result.status) (L.told stdio) (L.told result.stdio) }
     ensures cause { result.status ≡ Status.StreamFault → Rose (L.faults stdio) (L.faults result.stdio) }
 
     // Other words are no command, and do nothing.
@@ -47,28 +52,46 @@ pub fn run<D, L: Link, F, E, G>(
 
     ensures given_back { (result.disk ≡ disk) × (result.doors ≡ doors) × (result.finish ≡ finish) }
 {
-    match command_of(words) {
-        Some(Command::Session) => {
-            let config = Config {
-                single_tenant: false,
-            };
-            let ended = run_session(alloc, disk, stdio, config);
-            Outcome {
-                status: ended.status,
-                disk: ended.disk,
-                stdio: ended.stdio,
-                doors,
-                finish,
-                history: ended.history,
-            }
-        }
-        None => Outcome {
-            status: Status::NoCommand,
-            disk,
-            stdio,
-            doors,
-            finish,
-            history: Vec::new(alloc),
-        },
+    let Some(Command::Session) = command_of(words) else {
+        return unserved(alloc, Status::NoCommand, disk, stdio, doors, finish);
+    };
+    let Ok(routes) = Routes::new(alloc) else {
+        return unserved(alloc, Status::NoMemory, disk, stdio, doors, finish);
+    };
+    let config = Config {
+        single_tenant: false,
+        routes,
+    };
+    let ended = run_session(alloc, disk, stdio, config);
+    Outcome {
+        status: ended.status,
+        disk: ended.disk,
+        stdio: ended.stdio,
+        doors,
+        finish,
+        history: ended.history,
+    }
+}
+
+// All that was handed in, as it was.
+fn unserved<D, L, F, E>(
+    alloc: Global,
+    status: Status,
+    disk: D,
+    stdio: L,
+    doors: F,
+    finish: E,
+) -> Outcome<D, L, F, E>
+    ensures status { result.status ≡ status }
+    ensures given_back { (result.disk ≡ disk) × (result.stdio ≡ stdio) × (result.doors ≡ doors) × (result.finish ≡ finish) }
+    ensures nothing { result.history.items ≡ [] }
+{
+    Outcome {
+        status,
+        disk,
+        stdio,
+        doors,
+        finish,
+        history: Vec::new(alloc),
     }
 }

@@ -4,10 +4,11 @@ ghost use Rattle.http_session.specs.Link.{Goes, Rose};
 ghost use Rattle.http_session.specs.Reply.{bytes_of_reply};
 ghost use Rattle.http_session.specs.declared.reply.Reply.{Reply};
 ghost use Rattle.profile_model.specs.History.{HasBoundedTotals};
-ghost use Rattle.api_replies.specs.Replies.{last_reply, reply_for_memory};
+ghost use Rattle.api_replies.specs.Refusals.{last_reply, reply_for_memory};
 ghost use Rattle.pyro_server.specs.Given.{bytes_of_last};
 ghost use Rattle.pyro_server.specs.Served.{IsExchange, IsServedInTurn};
 ghost use Rattle.pyro_server.specs.ServedAt.{IsServedAt};
+ghost use Rattle.pyro_server.specs.ServedLaws.{AnswersAreIsolated};
 ghost use Rattle.pyro_server.specs.Steps.{GivesLast, GivesReply, IsAnswered, ServesStep};
 
 use crate::settle::settle;
@@ -45,6 +46,8 @@ pub fn run_session<D, L: Link>(alloc: Global, disk: D, stdio: L, config: Config)
     ensures served { Goes (IsServedAt config.single_tenant result.history.items [] result.status) (L.told stdio) (L.told result.stdio) }
     // More closely, each is over the history that the requests before it left.
     ensures in_turn { Goes (IsServedInTurn config.single_tenant result.history.items result.status) (L.told stdio) (L.told result.stdio) }
+    // And what a tenant is told depends on its own pushes alone.
+    ensures apart { AnswersAreIsolated }
 
     ensures disk { result.disk ≡ disk }
     ensures count { L.faults stdio ≤ L.faults result.stdio }
@@ -143,9 +146,9 @@ fn reply_to(alloc: Global, request: &Request, history: &mut Vec<Push>, config: &
 {
     match answer(alloc, request, history, config) {
         Answered::Reply(reply) => reply,
-        Answered::Push(push) => {
+        Answered::Push(form, push) => {
             let verdict = settle(history, push);
-            acknowledge(verdict, request.moment(), request.close())
+            acknowledge(verdict, form, request.moment(), request.close())
         }
     }
 }

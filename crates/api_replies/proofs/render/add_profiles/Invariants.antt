@@ -6,6 +6,7 @@ use Rattle.api_replies.proofs.render.add_profiles.Given as goal
 
 abbrev pub invariant-loop-profile : goal.invariant-loop-profile
 invariant-loop-profile l = record {
-  sums : with_samples l.sums (wanted_samples l.ask (drop l.profile-index l.profiles)) ≡ with_samples l.fn.sums (wanted_samples l.ask l.profiles);
+  same : l.ask ≡ l.fn.ask;
+  sums : with_samples l.sums (wanted_samples l.fn.ask (drop l.profile-index l.profiles)) ≡ with_samples l.fn.sums (wanted_samples l.fn.ask l.profiles);
   total : total_of l.sums ≤ total_of l.fn.sums + profiles_total (take l.profile-index l.profiles);
 }

@@ -1,9 +1,7 @@
-use Rattle.std.proofs.Common.{◌≡◌, ◌+◌, ◌≤◌, ◌<◌, ◌==◌, ◌∙◌, false, true, cond, refl, sym, ap, subst, arith, lit<, ℕ}
+use Rattle.std.proofs.Common.{◌≡◌, ◌+◌, ◌<◌, ◌==◌, ◌∙◌, false, refl, sym, ap, subst, arith, lit<, ℕ}
 use Rattle.std.proofs.lemmas.Bool.Decides.{nat_tests}
-use Rattle.http_session.specs.Link.{Told}
 use Rattle.http_session.specs.Waiting.{Waiting}
 use Rattle.http_session.specs.Takes.{IsWhole}
-use Rattle.http_session.specs.Asked.{Asked}
 use Rattle.http_session.proofs.GoesLemmas.{goes_then, goes_nowhere}
 use Rattle.pyro_server.specs.Given.{status_after}
 use Rattle.pyro_server.proofs.Sessions.{SoFar, at_first, one_more, ended, closed, last_closes}

@@ -60,31 +60,41 @@ fn each_sample_type_is_a_profile_of_its_own_type(rt: HostRuntime) -> Result<(), 
 fn a_faulty_pprof_keeps_nothing(rt: HostRuntime) -> Result<(), Fail> {
     let alloc = rt.alloc();
     let mut talk = Talk::new(alloc);
-    for (body, fault) in [
-        (NEGATIVE, "{\"fault\":\"P9\",\"place\":[0,0]}"),
+    for (body, code, place) in [
+        (NEGATIVE, "P9", "0,0"),
+        (b"\x0a\x03\x08\x01\x10".as_slice(), "P1", "4"),
+        (b"\x32\x00\x20".as_slice(), "P1", "2"),
+        (b"\x08".as_slice(), "P1", "0"),
+        (b"\x0b".as_slice(), "P1", "0"),
         (
-            b"\x0a\x03\x08\x01\x10".as_slice(),
-            "{\"fault\":\"P1\",\"place\":[4]}",
+            b"\x08\x80\x80\x80\x80\x80\x80\x80\x80\x80\x02".as_slice(),
+            "P1",
+            "0",
         ),
-        (
-            b"\x32\x00\x20".as_slice(),
-            "{\"fault\":\"P1\",\"place\":[2]}",
-        ),
-        (
-            b"\x0a\x02\x08\x01".as_slice(),
-            "{\"fault\":\"P2\",\"place\":[]}",
-        ),
-        (
-            b"\x32\x00\x12\x03\x0a\x01\x05".as_slice(),
-            "{\"fault\":\"P6\",\"place\":[0]}",
-        ),
+        (b"\x0a\x02\x08\x01".as_slice(), "P2", ""),
+        (b"\x32\x00\x32\x01\xff".as_slice(), "P12", "1"),
+        (b"\x32\x00\x0a\x04\x08\x05\x10\x00".as_slice(), "P3", "1,0"),
+        (b"\x32\x00\x2a\x00".as_slice(), "P4", "5,0"),
         (
             b"\x32\x00\x22\x02\x08\x01\x22\x02\x08\x01".as_slice(),
-            "{\"fault\":\"P5\",\"place\":[4,1]}",
+            "P5",
+            "4,1",
+        ),
+        (b"\x32\x00\x12\x03\x0a\x01\x05".as_slice(), "P6", "0"),
+        (
+            b"\x32\x00\x22\x06\x08\x01\x22\x02\x08\x09".as_slice(),
+            "P7",
+            "0",
+        ),
+        (b"\x32\x00\x0a\x00\x12\x00".as_slice(), "P8", "0"),
+        (
+            b"\x32\x00\x0a\x00\x12\x0a\x10\xff\xff\xff\xff\xff\xff\xff\xff\x7f\x12\x02\x10\x01".as_slice(),
+            "P10",
+            "0",
         ),
     ] {
         let request = post(alloc, INGEST, body)?;
-        talk.refuses(&request, "400 Bad Request", fault)?;
+        talk.faults(&request, "400 Bad Request", code, place)?;
     }
     let packed = post(alloc, INGEST, b"\x1f\x8b\x08")?;
     talk.refuses(
@@ -141,50 +151,36 @@ fn a_json_push_is_kept_and_found_by_its_labels(rt: HostRuntime) -> Result<(), Fa
 fn a_push_with_a_bad_series_keeps_none(rt: HostRuntime) -> Result<(), Fail> {
     let alloc = rt.alloc();
     let mut talk = Talk::new(alloc);
-    for (raw, status, fault) in [
-        (
-            "H4sI",
-            "415 Unsupported Media Type",
-            "{\"fault\":\"J5\",\"place\":[1,0,13]}",
-        ),
-        (
-            "MgAg",
-            "400 Bad Request",
-            "{\"fault\":\"J5\",\"place\":[1,0,1]}",
-        ),
-        (
-            "AB",
-            "400 Bad Request",
-            "{\"fault\":\"J4\",\"place\":[1,0]}",
-        ),
+    for (raw, status, code, place) in [
+        ("H4sI", "415 Unsupported Media Type", "J5", "1,0,13"),
+        ("MgAg", "400 Bad Request", "J5", "1,0,1"),
+        ("AB", "400 Bad Request", "J4", "1,0"),
     ] {
         let body = format!(in alloc;
             "{{\"series\":[{{\"labels\":[],\"samples\":[{{\"rawProfile\":\"{SEVEN}\"}}]}},{{\"labels\":[],\"samples\":[{{\"rawProfile\":\"{raw}\"}}]}}]}}"
         )?;
         let request = post(alloc, PUSH, body.as_str().as_bytes())?;
-        talk.refuses(&request, status, fault)?;
+        talk.faults(&request, status, code, place)?;
     }
-    for (body, fault) in [
-        ("", "{\"fault\":\"J1\",\"place\":[]}"),
-        ("{\"series\":7}", "{\"fault\":\"J2\",\"place\":[0,0]}"),
+    for (body, code, place) in [
+        ("", "J1", ""),
+        ("{\"series\":7}", "J2", "0,0"),
         (
             "{\"series\":[{\"labels\":[],\"samples\":[{\"rawProfile\":\"AB\"},{}]}]}",
-            "{\"fault\":\"J2\",\"place\":[0,1]}",
+            "J2",
+            "0,1",
         ),
         (
             "{\"series\":[{\"labels\":[{\"name\":\"1\",\"value\":\"\"}],\"samples\":[]}]}",
-            "{\"fault\":\"L1\",\"place\":[0,0]}",
+            "L1",
+            "0,0",
         ),
     ] {
         let request = post(alloc, PUSH, body.as_bytes())?;
-        talk.refuses(&request, "400 Bad Request", fault)?;
+        talk.faults(&request, "400 Bad Request", code, place)?;
     }
     let request = post(alloc, PUSH, pushes(alloc, "", "H4sI")?.as_str().as_bytes())?;
-    talk.refuses(
-        &request,
-        "415 Unsupported Media Type",
-        "{\"fault\":\"J5\",\"place\":[0,0,13]}",
-    )?;
+    talk.faults(&request, "415 Unsupported Media Type", "J5", "0,0,13")?;
     talk.holds(&rt, 0)
 }
 
@@ -223,10 +219,6 @@ fn a_push_may_weigh_so_much_and_no_more(rt: HostRuntime) -> Result<(), Fail> {
     let mut talk = Talk::new(alloc);
     talk.keeps(INGEST, &heavy(alloc, 4)?, 1)?;
     let request = post(alloc, INGEST, &heavy(alloc, 5)?)?;
-    talk.refuses(
-        &request,
-        "413 Content Too Large",
-        "{\"fault\":\"P14\",\"place\":[0,0]}",
-    )?;
+    talk.faults(&request, "413 Content Too Large", "P14", "0,0")?;
     talk.holds(&rt, 1)
 }

@@ -92,6 +92,29 @@ fn lines_are_stacks_and_units_are_of_the_type(rt: HostRuntime) -> Result<(), Fai
 }
 
 #[test]
+fn frames_may_have_blanks_and_lines_may_be_empty(rt: HostRuntime) -> Result<(), Fail> {
+    let mut talk = Talk::new(rt.alloc());
+    let query = "query=process_cpu:samples:count:cpu:nanoseconds";
+    talk.keeps("/ingest?name=app", b"\n\n", 1)?;
+    talk.renders(query, 1, "")?;
+    talk.keeps("/ingest?name=app", b"do it;x y 4", 2)?;
+    talk.renders(query, 2, "do it;x y 4\n")?;
+    talk.lists(
+        "LabelNames",
+        "{}",
+        2,
+        "{\"names\":[\"__name__\",\"__profile_type__\",\"service_name\"]}",
+    )?;
+    talk.lists(
+        "LabelValues",
+        "{\"name\":\"service_name\"}",
+        2,
+        "{\"names\":[\"app\"]}",
+    )?;
+    talk.holds(&rt, 2)
+}
+
+#[test]
 fn labels_values_and_series_are_listed(rt: HostRuntime) -> Result<(), Fail> {
     let mut talk = Talk::new(rt.alloc());
     talk.keeps("/ingest?name=app", b"x 1\n", 1)?;

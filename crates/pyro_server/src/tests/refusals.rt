@@ -9,62 +9,23 @@ const BAD: &str = "400 Bad Request";
 fn faults_of_an_ingest_are_told_with_their_places(rt: HostRuntime) -> Result<(), Fail> {
     let alloc = rt.alloc();
     let mut talk = Talk::new(alloc);
-    for (target, body, fault) in [
-        ("/ingest", "", "{\"fault\":\"I1\",\"place\":[0]}"),
-        ("/ingest?name=", "", "{\"fault\":\"I1\",\"place\":[0]}"),
-        (
-            "/ingest?name=app%7Benv=prod",
-            "",
-            "{\"fault\":\"I1\",\"place\":[12]}",
-        ),
-        (
-            "/ingest?name=app%7B1st=x%7D&from=x",
-            "",
-            "{\"fault\":\"L1\",\"place\":[1]}",
-        ),
-        (
-            "/ingest?name=app%7Benv=a,env=b%7D",
-            "",
-            "{\"fault\":\"L3\",\"place\":[2]}",
-        ),
-        (
-            "/ingest?name=app%7Bservice_name=b%7D",
-            "",
-            "{\"fault\":\"L3\",\"place\":[1]}",
-        ),
-        (
-            "/ingest?name=app&from=soon&format=jfr",
-            "",
-            "{\"fault\":\"I2\",\"place\":[]}",
-        ),
-        (
-            "/ingest?name=app&format=jfr",
-            "x",
-            "{\"fault\":\"I3\",\"place\":[]}",
-        ),
-        (
-            "/ingest?name=app",
-            "x 1\nx",
-            "{\"fault\":\"F1\",\"place\":[2]}",
-        ),
-        (
-            "/ingest?name=app",
-            "main 3\r\n",
-            "{\"fault\":\"F2\",\"place\":[1]}",
-        ),
-        (
-            "/ingest?name=app",
-            "a;;b 1",
-            "{\"fault\":\"F3\",\"place\":[1]}",
-        ),
-        (
-            "/ingest?name=app&format=lines",
-            "a;;b",
-            "{\"fault\":\"F3\",\"place\":[1]}",
-        ),
+    for (target, body, code, place) in [
+        ("/ingest", "", "I1", "0"),
+        ("/ingest?name=", "", "I1", "0"),
+        ("/ingest?name=app%7Benv=prod", "", "I1", "12"),
+        ("/ingest?name=app%7B1st=x%7D&from=x", "", "L1", "1"),
+        ("/ingest?name=app%7Benv=a,env=b%7D", "", "L3", "2"),
+        ("/ingest?name=app%7Bservice_name=b%7D", "", "L3", "1"),
+        ("/ingest?name=app&from=soon&format=jfr", "", "I2", ""),
+        ("/ingest?name=app&format=jfr", "x", "I3", ""),
+        ("/ingest?name=app", "main", "F1", "1"),
+        ("/ingest?name=app", "x 1\nx", "F1", "2"),
+        ("/ingest?name=app", "main 3\r\n", "F2", "1"),
+        ("/ingest?name=app", "a;;b 1", "F3", "1"),
+        ("/ingest?name=app&format=lines", "a;;b", "F3", "1"),
     ] {
         let request = post(alloc, target, body.as_bytes())?;
-        talk.refuses(&request, BAD, fault)?;
+        talk.faults(&request, BAD, code, place)?;
     }
     talk.holds(&rt, 0)
 }
@@ -93,9 +54,9 @@ fn labels_are_counted_and_measured(rt: HostRuntime) -> Result<(), Fail> {
     talk.keeps(many_labels(alloc, 1, 2048)?.as_str(), b"", 2)?;
     talk.keeps(many_labels(alloc, 40, 0)?.as_str(), b"", 3)?;
     let many = post(alloc, many_labels(alloc, 30, 1)?.as_str(), b"")?;
-    talk.refuses(&many, BAD, "{\"fault\":\"L4\",\"place\":[]}")?;
+    talk.faults(&many, BAD, "L4", "")?;
     let long = post(alloc, many_labels(alloc, 1, 2049)?.as_str(), b"")?;
-    talk.refuses(&long, BAD, "{\"fault\":\"L2\",\"place\":[1]}")?;
+    talk.faults(&long, BAD, "L2", "1")?;
     talk.holds(&rt, 3)
 }
 
@@ -103,45 +64,39 @@ fn labels_are_counted_and_measured(rt: HostRuntime) -> Result<(), Fail> {
 fn faults_of_a_render_are_told_with_their_places(rt: HostRuntime) -> Result<(), Fail> {
     let alloc = rt.alloc();
     let mut talk = Talk::new(alloc);
-    for (parameters, fault) in [
-        ("", "{\"fault\":\"Q1\",\"place\":[]}"),
-        ("&query=cpu%7B&from=x", "{\"fault\":\"S1\",\"place\":[]}"),
+    for (parameters, code, place) in [
+        ("", "Q1", ""),
+        ("&query=cpu%7B&from=x", "S1", ""),
+        ("&query=a:b:c:d:e%7Benv%7D&from=x", "S2", "13"),
         (
-            "&query=a:b:c:d:e%7Benv%7D&from=x",
-            "{\"fault\":\"S2\",\"place\":[13]}",
+            "&query=process_cpu:samples:count:cpu:nanoseconds%7Benv%7D",
+            "S2",
+            "45",
         ),
         (
-            "&query=a:b:c:d:e%7Bx=%22y%22",
-            "{\"fault\":\"S2\",\"place\":[15]}",
+            "&query=process_cpu:samples:count:cpu:nanoseconds%7Benv=~%22(%22%7D",
+            "S3",
+            "0",
         ),
-        (
-            "&query=a:b:c:d:e%7Bx=~%22(%22%7D",
-            "{\"fault\":\"S3\",\"place\":[0]}",
-        ),
+        ("&query=a:b:c:d:e%7Bx=%22y%22", "S2", "15"),
+        ("&query=a:b:c:d:e%7Bx=~%22(%22%7D", "S3", "0"),
         (
             "&query=a:b:c:d:e%7Bx=%22y%22,z!~%22((a%7B1000%7D)%7B1000%7D)%7B1000%7D%22%7D",
-            "{\"fault\":\"S5\",\"place\":[1]}",
+            "S5",
+            "1",
         ),
         (
             "&query=a:b:c:d:e%7Ba=%221%22,a=%222%22,a=%223%22,a=%224%22,a=%225%22,a=%226%22,a=%227%22,a=%228%22,a=%229%22,a=%2210%22,a=%2211%22,a=%2212%22,a=%2213%22,a=%2214%22,a=%2215%22,a=%2216%22,a=~%22(%22%7D",
-            "{\"fault\":\"S4\",\"place\":[]}",
+            "S4",
+            "",
         ),
-        (
-            "&query=a:b:c:d:e&from=soon&until=late",
-            "{\"fault\":\"Q2\",\"place\":[1]}",
-        ),
-        (
-            "&query=a:b:c:d:e&until=12345678901234567890",
-            "{\"fault\":\"Q2\",\"place\":[2]}",
-        ),
-        (
-            "&query=a:b:c:d:e&from=now&until=now-1s",
-            "{\"fault\":\"Q3\",\"place\":[]}",
-        ),
+        ("&query=a:b:c:d:e&from=soon&until=late", "Q2", "1"),
+        ("&query=a:b:c:d:e&until=12345678901234567890", "Q2", "2"),
+        ("&query=a:b:c:d:e&from=now&until=now-1s", "Q3", ""),
     ] {
         let target = format!(in alloc; "/pyroscope/render?format=folded{parameters}")?;
         let request = get(alloc, target.as_str())?;
-        talk.refuses(request.as_str().as_bytes(), BAD, fault)?;
+        talk.faults(request.as_str().as_bytes(), BAD, code, place)?;
     }
     talk.holds(&rt, 0)
 }
@@ -150,48 +105,35 @@ fn faults_of_a_render_are_told_with_their_places(rt: HostRuntime) -> Result<(), 
 fn faults_of_a_query_method_are_told_with_their_places(rt: HostRuntime) -> Result<(), Fail> {
     let alloc = rt.alloc();
     let mut talk = Talk::new(alloc);
-    for (method, body, fault) in [
-        ("LabelNames", "[]", "{\"fault\":\"J1\",\"place\":[]}"),
-        ("LabelNames", "{", "{\"fault\":\"J1\",\"place\":[]}"),
-        (
-            "LabelNames",
-            "{\"matchers\":7,\"start\":-1}",
-            "{\"fault\":\"J3\",\"place\":[0]}",
-        ),
+    for (method, body, code, place) in [
+        ("LabelNames", "[]", "J1", ""),
+        ("LabelNames", "{", "J1", ""),
+        ("LabelNames", "{\"matchers\":7,\"start\":-1}", "J3", "0"),
         (
             "LabelNames",
             "{\"matchers\":[\"{\"],\"end\":1.0}",
-            "{\"fault\":\"J3\",\"place\":[2]}",
+            "J3",
+            "2",
         ),
-        (
-            "LabelValues",
-            "{\"name\":null}",
-            "{\"fault\":\"J3\",\"place\":[0]}",
-        ),
-        (
-            "Series",
-            "{\"labelNames\":[1]}",
-            "{\"fault\":\"J3\",\"place\":[1]}",
-        ),
+        ("LabelValues", "{\"name\":null}", "J3", "0"),
+        ("Series", "{\"labelNames\":[1]}", "J3", "1"),
         (
             "Series",
             "{\"matchers\":[\"{a=\\\"x\\\"}\",\"{a\"],\"start\":2,\"end\":1}",
-            "{\"fault\":\"S2\",\"place\":[2]}",
+            "S2",
+            "2",
         ),
         (
             "Series",
             "{\"matchers\":[\"\",\"\",\"\",\"\",\"\",\"\",\"\",\"\",\"\",\"\",\"\",\"\",\"\",\"\",\"\",\"\",\"{\"]}",
-            "{\"fault\":\"S4\",\"place\":[]}",
+            "S4",
+            "",
         ),
-        (
-            "LabelNames",
-            "{\"start\":2,\"end\":1}",
-            "{\"fault\":\"Q3\",\"place\":[]}",
-        ),
+        ("LabelNames", "{\"start\":2,\"end\":1}", "Q3", ""),
     ] {
         let target = format!(in alloc; "/querier.v1.QuerierService/{method}")?;
         let request = post(alloc, target.as_str(), body.as_bytes())?;
-        talk.refuses(&request, BAD, fault)?;
+        talk.faults(&request, BAD, code, place)?;
     }
     talk.holds(&rt, 0)
 }

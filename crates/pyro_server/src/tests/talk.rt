@@ -78,6 +78,18 @@ impl Talk {
         self.says(request, reply.as_str())
     }
 
+    /// A request whose reading finds a fault, with its status, code and place.
+    pub(super) fn faults(
+        &mut self,
+        request: &[u8],
+        status: &str,
+        code: &str,
+        place: &str,
+    ) -> Result<(), AllocError> {
+        let body = format!(in self.alloc; "{{\"fault\":\"{code}\",\"place\":[{place}]}}")?;
+        self.refuses(request, status, body.as_str())
+    }
+
     /// The session gives just these replies, and keeps so many pushes.
     pub(super) fn holds(&self, rt: &impl Abort, kept: usize) -> Result<(), Fail> {
         let ran = session(self.alloc, &self.input)?;

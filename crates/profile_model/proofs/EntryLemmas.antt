@@ -1,8 +1,8 @@
 -- A key written to entries in the order of their keys.
-use Rattle.std.proofs.Common.{◌≡◌, ◌∙◌, ◌+◌, ◌≤◌, List, [], ◌∷◌, Bool, true, false, cond, arith, length, Some, None, Option, is_some, refl, sym, ap}
+use Rattle.std.proofs.Common.{◌≡◌, ◌∙◌, ◌+◌, ◌≤◌, List, [], ◌∷◌, Bool, true, false, cond, arith, length, Some, None, Option, refl, sym, ap}
 use Rattle.std.specs.List.{AllByRecursion}
 use Rattle.std.specs.List.Sorted.{IsStrictlySortedBy}
-use Rattle.std.specs.Map.{lookup, keys_of, set_value}
+use Rattle.std.specs.Map.{lookup, keys_of}
 use Rattle.std.specs.BTreeMap.{is_at, insert_entry}
 use Rattle.std.specs.Cmp.{IsTotalOrder, alike_right}
 use Rattle.std.specs.Ordering.{is_eq, ordering_reverse, match_ordering}
@@ -92,20 +92,3 @@ length-insert_entry {K} {X} cmp (e ∷ es) k v = by (cmp k e.0) (length-insert_e
     by Less later = omega arith
     by Equal later = omega arith
     by Greater later = omega arith
-
--- a value written to a key that is there
-module _ {K X : Type 0} {R : K → K → Ordering} (o : IsTotalOrder R) where
-  pub set_value-insert_entry : (es : List (K × X)) (k : K) (v w : X) → IsStrictlySortedBy R (keys_of es) → lookup (is_at (R k)) es ≡ Some w
-      → set_value (is_at (R k)) es v ≡ insert_entry R es k v
-  unfolding IsStrictlySortedBy
-  set_value-insert_entry [] k v w sorted held = absurd (true≢false (ap is_some (sym held)))
-  set_value-insert_entry (e ∷ es) k v w sorted held = by (R k e.0) refl held (λ found. set_value-insert_entry es k v w sorted.1 found)
-    where
-      by : (r : Ordering) → R k e.0 ≡ r → cond (is_eq r) (Some e.1) (lookup (is_at (R k)) es) ≡ Some w
-          → (lookup (is_at (R k)) es ≡ Some w → set_value (is_at (R k)) es v ≡ insert_entry R es k v)
-          → cond (is_eq r) ((e.0, v) ∷ es) (e ∷ set_value (is_at (R k)) es v) ≡ match_ordering r ((k, v) ∷ e ∷ es) ((e.0, v) ∷ es) (e ∷ insert_entry R es k v)
-      by Equal is found later = refl
-      by Greater is found later = ap (λ (rest : List (K × X)). e ∷ rest) (later found)
-      by Less is found later =
-          let none = lookup-below o es k (all_map (λ y above. o.trans k e.0 y is above) (keys_of es) sorted.0) in
-          absurd (true≢false (ap is_some (sym found ∙ none)))

@@ -1,6 +1,5 @@
 -- What adding a value does to the sums.
-use Rattle.std.proofs.Common.{◌≡◌, ◌∙◌, ◌==◌, ℕ, ◌+◌, ◌^◌, ◌<◌, ◌≤◌, Bool, true, false, cond, List, ap, arith, Some, None, Option}
-use Rattle.std.proofs.lemmas.Bool.{eqb-true}
+use Rattle.std.proofs.Common.{◌≡◌, ◌∙◌, ℕ, ◌+◌, ◌^◌, ◌<◌, ◌≤◌, List, ap, arith, Some, None, Option}
 use Rattle.std.specs.Prelude.{unwrap_or, option_map, refl}
 use Rattle.std.specs.List.Sorted.{IsStrictlySortedBy}
 use Rattle.std.specs.Map.{lookup, keys_of}
@@ -10,7 +9,7 @@ use Rattle.std.proofs.lemmas.Map.Entries.{sum_by-insert_entry, sum_by-remove_ent
 use Rattle.profile_model.specs.Stacks.{stack_cmp}
 use Rattle.profile_model.specs.StackOrder.{stacks_total}
 use Rattle.profile_model.specs.StoredSums.{AreStored}
-use Rattle.profile_model.specs.Sums.{Sample, value_of, total_of, with_added}
+use Rattle.profile_model.specs.Sums.{Sample, value_of, total_of}
 
 id_of : (found : Option ℕ) → unwrap_or (option_map (λ (v : ℕ). v) found) 0 ≡ unwrap_or found 0
 id_of None = refl
@@ -28,18 +27,18 @@ total-insert sums stack value sorted =
     let grown = sum_by-insert_entry (λ v. v) stacks_total sums stack (value_of sums stack + value) sorted in
     let same = id_of (lookup (is_at (stack_cmp stack)) sums) in omega arith
 
--- the same of sums that hold the stack's new value
-pub total-inserted : (before after : List Sample) (stack : List (List ℕ)) (held value : ℕ) → held ≡ value_of before stack
-    → IsStrictlySortedBy stack_cmp (keys_of before) → after ≡ insert_entry stack_cmp before stack (held + value)
-    → total_of after ≡ total_of before + value
-total-inserted before after stack held value is sorted made = rw (made, is) (total-insert before stack value sorted)
+-- the same of what sums become that hold the stack's new value
+pub total-inserted : (before now : List Sample) (stack : List (List ℕ)) (held value : ℕ) → before ≡ now → held ≡ value_of before stack
+    → IsStrictlySortedBy stack_cmp (keys_of before) → (after : List Sample) → after ≡ insert_entry stack_cmp before stack (held + value)
+    → total_of after ≡ total_of now + value
+total-inserted before now stack held value view is sorted after made = rw (made, is, ← view) (total-insert before stack value sorted)
 
 -- sums as they are kept, with a value added to a stack's
 pub stored-inserted : (before after : List Sample) (stack : List (List ℕ)) (held value total : ℕ) → held ≡ value_of before stack
     → IsStrictlySortedBy stack_cmp (keys_of before) → after ≡ insert_entry stack_cmp before stack (held + value)
     → AreStored before total → 0 < value → total + value < 2 ^ 63 → AreStored after (total + value)
 stored-inserted before after stack held value total is sorted made stored some fits =
-    let grown = total-inserted before after stack held value is sorted made in
+    let grown = total-inserted before before stack held value refl is sorted after made in
     let was = stored.summed in
     record {
       summed = omega arith;
@@ -47,21 +46,7 @@ stored-inserted before after stack held value total is sorted made stored some f
       positive = rw made (All-values-insert_entry stack_cmp stack (held + value) (λ v. 0 < v) before stored.positive (omega arith));
     }
 
--- a stack that is there has the value that was found
-pub value-found : (sums : List Sample) (stack : List (List ℕ)) (held : ℕ) → Some held ≡ lookup (is_at (stack_cmp stack)) sums → held ≡ value_of sums stack
-value-found sums stack held is = ap (λ (found : Option ℕ). unwrap_or found 0) is
-
-pub value-none : (sums : List Sample) (stack : List (List ℕ)) → None ≡ lookup (is_at (stack_cmp stack)) sums → 0 ≡ value_of sums stack
-value-none sums stack is = ap (λ (found : Option ℕ). unwrap_or found 0) is
-
--- a value of at least 1 written to its stack is that value added
-pub added-inserted : (before after now : List Sample) (stack : List (List ℕ)) (held value : ℕ) → before ≡ now → held ≡ value_of before stack
-    → after ≡ insert_entry stack_cmp before stack (held + value) → 0 < value → after ≡ with_added now stack value
-added-inserted before after now stack held value view is made some =
-    made ∙ ap (λ (h : ℕ). insert_entry stack_cmp before stack (h + value)) is
-    ∙ ap (λ (sums : List Sample). insert_entry stack_cmp sums stack (value_of sums stack + value)) view
-    ∙ by (value == 0) refl
-  where
-    by : (b : Bool) → (value == 0) ≡ b → insert_entry stack_cmp now stack (value_of now stack + value) ≡ cond b now (insert_entry stack_cmp now stack (value_of now stack + value))
-    by true none = let zero : value ≡ 0 = eqb-true value 0 none in absurd (omega arith)
-    by false none = refl
+-- what a look-up found, or 0
+pub value-looked_up : (sums : List Sample) (stack : List (List ℕ)) (found : Option ℕ) (held : ℕ) → found ≡ lookup (is_at (stack_cmp stack)) sums
+    → held ≡ unwrap_or found 0 → held ≡ value_of sums stack
+value-looked_up sums stack found held at is = is ∙ ap (λ (found : Option ℕ). unwrap_or found 0) at

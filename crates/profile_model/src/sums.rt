@@ -75,13 +75,10 @@ impl StackSums {
         if value == 0 {
             return Ok(());
         }
-        if let Some(held) = self.values.get_mut(&stack) {
-            *held += value;
-            self.total += value;
-            return Ok(());
-        }
-        match self.values.insert(stack, value) {
-            Ok(_) => {
+        match self.values.entry(stack) {
+            Ok(entry) => {
+                let held = entry.or_insert(0);
+                *held += value;
                 self.total += value;
                 Ok(())
             }

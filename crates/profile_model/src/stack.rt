@@ -1,5 +1,6 @@
 // A call stack.
 ghost use Rattle.std.specs.Prelude.{◌≡◌, refl, Some};
+ghost use Rattle.std.specs.Arc.{arc_slice_items};
 ghost use Rattle.std.specs.Cmp;
 ghost use Rattle.profile_model.specs.Stacks.{stack_cmp, IsStack};
 ghost use Rattle.profile_model.specs.StackOrder.{stack_eq, stacks_equiv, stacks_total, stacks_ties, stacks_po};
@@ -11,6 +12,7 @@ use std::cmp::Ordering;
 use std::error::Error;
 use std::fmt;
 use std::marker::Model;
+use std::sync::ArcSlice;
 
 /// The most frames that a stack may have.
 pub const MAX_FRAMES: usize = 1024;
@@ -19,20 +21,22 @@ pub const MAX_FRAMES: usize = 1024;
 pub const MAX_FRAME_BYTES: usize = 65535;
 
 /// The frames of a call stack, root first.
+/// They are shared: a clone copies no frames.
 #[derive(Debug, Drop)]
 pub struct Stack {
-    frames: Vec<Name>,
+    frames: ArcSlice<Name>,
 }
 
 impl Model for Stack {
     ghost use Rattle.std.specs.Prelude.{List, ℕ};
+    ghost use Rattle.std.specs.Arc.{arc_slice_items};
     ghost use Rattle.profile_model.specs.Stacks.{IsStack};
 
     ghost Value = { List (List ℕ) };
 
-    ghost view = { λ s. s.frames.items };
+    ghost view = { λ s. arc_slice_items s.frames };
 
-    ghost invariant = { λ s. IsStack s.frames.items };
+    ghost invariant = { λ s. IsStack (arc_slice_items s.frames) };
 }
 
 /// Why frames are no stack.
@@ -63,16 +67,16 @@ impl Error for StackFault {}
 
 impl Stack {
     /// The stack of these frames, root first. It takes no memory.
-    pub fn from_frames(frames: Vec<Name>) -> Result<Stack, StackFault>
-        ensures read { IsReadStack frames.items result }
+    pub fn from_frames(frames: ArcSlice<Name>) -> Result<Stack, StackFault>
+        ensures read { IsReadStack (arc_slice_items frames) result }
     {
-        if frames.is_empty() {
+        if frames.len() == 0 {
             return Err(StackFault::NoFrames);
         }
         if frames.len() > MAX_FRAMES {
             return Err(StackFault::TooDeep);
         }
-        match wrong_frame(&frames) {
+        match wrong_frame(frames.as_slice()) {
             Some(fault) => Err(fault),
             None => Ok(Stack { frames }),
         }
@@ -82,7 +86,7 @@ impl Stack {
         ensures value { result.now ≡ self.now }
         ensures limits { IsStack self.now }
     {
-        &self.frames
+        self.frames.as_slice()
     }
 }
 

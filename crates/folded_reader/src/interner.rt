@@ -7,6 +7,7 @@ ghost use Rattle.folded_reader.specs.Lines.{frames_of};
 use profile_model::{Name, Stack};
 use std::alloc::{AllocError, Global};
 use std::collections::BTreeMap;
+use std::sync::ArcSlice;
 
 // Each text of a frame that was met, with its name. An ordered map, since no choice of texts makes it slow.
 #[derive(Drop)]
@@ -37,7 +38,7 @@ impl<'a> Interner<'a> {
             let name = self.name(alloc, frame)?;
             frames.push(name)?;
         }
-        match Stack::from_frames(frames) {
+        match Stack::from_frames(ArcSlice::from_vec(frames)?) {
             Ok(stack) => Ok(stack),
             Err(_) => unreachable!(),
         }

@@ -1,6 +1,7 @@
 use crate::{FoldedFault, read_folded, read_lines, write_folded};
 use profile_model::{Name, Stack, StackSums};
 use std::alloc::{AllocError, Global};
+use std::sync::ArcSlice;
 use std::test::Fail;
 
 // The text of what a body says.
@@ -187,7 +188,7 @@ fn separators_and_control_bytes_in_frames_are_replaced(rt: HostRuntime) -> Resul
     let mut frames = Vec::new(alloc);
     frames.push(Name::from_text(alloc, "a;b\x01")?)?;
     frames.push(Name::from_text(alloc, "c\nd \x1f\x20")?)?;
-    let stack = Stack::from_frames(frames)?;
+    let stack = Stack::from_frames(ArcSlice::from_vec(frames)?)?;
     sums.add(stack, 3)?;
     assert_eq!(rt;
         write_folded(alloc, &sums)?.as_slice(),

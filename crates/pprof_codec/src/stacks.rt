@@ -8,6 +8,7 @@ use crate::judged::Judged;
 use pprof_message::SampleRef;
 use profile_model::{Name, Stack};
 use std::alloc::{AllocError, Global};
+use std::sync::ArcSlice;
 
 // The frames of the sample's locations, root first.
 pub(crate) fn build_stack(
@@ -27,7 +28,7 @@ pub(crate) fn build_stack(
         push_frames(judged, &mut frames, *id)?;
     }
     frames.reverse();
-    match Stack::from_frames(frames) {
+    match Stack::from_frames(ArcSlice::from_vec(frames)?) {
         Ok(stack) => Ok(stack),
         Err(_) => unreachable!(),
     }

@@ -1,6 +1,7 @@
 // What no clause says: that each call succeeds with ample memory, and the texts of the faults.
 use crate::*;
 use std::alloc::{AllocError, Global};
+use std::sync::ArcSlice;
 use std::test::Fail;
 
 fn stack(alloc: Global, frames: &[&str]) -> Result<Stack, Fail> {
@@ -8,7 +9,7 @@ fn stack(alloc: Global, frames: &[&str]) -> Result<Stack, Fail> {
     for frame in frames {
         names.push(Name::from_text(alloc, frame)?)?;
     }
-    Ok(Stack::from_frames(names)?)
+    Ok(Stack::from_frames(ArcSlice::from_vec(names)?)?)
 }
 
 #[test]
@@ -28,12 +29,12 @@ fn a_stack_is_refused_at_its_first_wrong_frame(rt: HostRuntime) -> Result<(), Fa
     let alloc = rt.alloc();
     let deep = stack(alloc, &["main", "run", "loop"])?;
     assert_eq!(rt; deep.frames().len(), 3);
-    let none = Stack::from_frames(Vec::new(alloc)).map(|_| ());
+    let none = Stack::from_frames(ArcSlice::from_vec(Vec::new(alloc))?).map(|_| ());
     assert_eq!(rt; none, Err(StackFault::NoFrames));
     let mut names = Vec::new(alloc);
     names.push(Name::from_text(alloc, "main")?)?;
     names.push(Name::from_text(alloc, "")?)?;
-    let empty = Stack::from_frames(names).map(|_| ());
+    let empty = Stack::from_frames(ArcSlice::from_vec(names)?).map(|_| ());
     assert_eq!(rt; empty, Err(StackFault::EmptyFrame(1)));
     Ok(())
 }
@@ -47,7 +48,11 @@ fn a_stack_holds_1024_frames_and_no_more(rt: HostRuntime) -> Result<(), Fail> {
         for _ in 0..count {
             names.push(frame.clone()?)?;
         }
-        assert_eq!(rt; Stack::from_frames(names).is_ok(), fits, "at {count}");
+        assert_eq!(rt;
+            Stack::from_frames(ArcSlice::from_vec(names)?).is_ok(),
+            fits,
+            "at {count}"
+        );
     }
     Ok(())
 }

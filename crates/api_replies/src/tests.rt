@@ -2,7 +2,8 @@
 use crate::{
     Answered, Config, FirstVerdict, PushForm, acknowledge, answer, closing_reply, memory_reply,
 };
-use http_session::{BadRequest, MemoryLink, NextRequest, Reader, Request, Status, Text};
+use http_session::{BadRequest, NextRequest, Reader, Request, Status, Text};
+use link_trait::MemoryLink;
 use routes::Routes;
 use std::alloc::Global;
 use std::test::Fail;

@@ -4,9 +4,9 @@ use Rattle.std.proofs.lemmas.List.{length-take-le, nil_from_length, drop-take}
 use Rattle.std.proofs.lemmas.List.Edits.{take-paste}
 use Rattle.std.specs.List.{copy_within}
 use Rattle.std.proofs.Math.Seq.{take-append-add}
-use Rattle.http_session.specs.Link.{Told, Took, ReadStep}
+use Rattle.link_trait.specs.Link.{Told, Took, ReadStep}
 use Rattle.http_session.specs.Pulled.{FillStep}
-use Rattle.http_session.proofs.GoesLemmas.{took_then}
+use Rattle.link_trait.proofs.GoesLemmas.{took_then}
 use borrow.Rule.Slice.PartMut.{post_of, put_mid}
 
 -- the first bytes, and those that were read behind them

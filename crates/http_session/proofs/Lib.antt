@@ -1,9 +1,7 @@
 pub mod BufferLemmas
 pub mod DigitLemmas
 pub mod EndingLemmas
-pub mod GoesLemmas
 pub mod JoinLemmas
-pub mod LinkLemmas
 pub mod NewlineLemmas
 pub mod PartsLemmas
 pub mod ReaderLemmas

@@ -2,12 +2,12 @@
 use Rattle.std.proofs.Common.{◌≡◌, ℕ, ◌-◌, ◌<◌, ◌≤◌, min, take, drop, arith, ⊎_elim, List, [], ◌∷◌, ◌++◌, length, refl, sym, subst, ap, ◌∙◌, append_assoc, append-nil, Ok, Err}
 use Rattle.std.proofs.lemmas.Bool.{cases_lt}
 use Rattle.std.proofs.lemmas.List.{take-append-drop, nil_from_length, drop_all, take_all}
-use Rattle.http_session.specs.Link.{Told}
+use Rattle.link_trait.specs.Link.{Told}
 use Rattle.http_session.specs.Pulled.{Pulled, FillStep}
 use Rattle.http_session.specs.Heads.{IsUnfinished}
 use Rattle.http_session.specs.Steps.{StopsAt, HeadStep}
 use Rattle.http_session.specs.declared.reader.Stop.{Stop}
-use Rattle.http_session.proofs.GoesLemmas.{took_then}
+use Rattle.link_trait.proofs.GoesLemmas.{took_then}
 
 pub pulled_then : (x y z : List ℕ) (a b c : Told) → Pulled x y a b → Pulled y z b c → Pulled x z a c
 pulled_then x y z a b c one two =

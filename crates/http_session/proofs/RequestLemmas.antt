@@ -2,7 +2,7 @@
 use Rattle.std.proofs.Common.{◌≡◌, ℕ, List, [], ◌++◌, sym, subst, ap, ◌∙◌, append_assoc, take, Ok, Err, inr}
 use Rattle.httparse.specs.Grammar.{RequestHead}
 use Rattle.httparse.proofs.GrammarLemmas.{ReadsRequest-append}
-use Rattle.http_session.specs.Link.{Told, Took}
+use Rattle.link_trait.specs.Link.{Told, Took}
 use Rattle.http_session.specs.Pulled.{Pulled}
 use Rattle.httparse.specs.declared.spans.HeaderSpan.{HeaderSpan}
 use Rattle.httparse.specs.declared.spans.RequestSpans.{RequestSpans}
@@ -17,7 +17,7 @@ use Rattle.http_session.specs.declared.bad_request.BadRequest.{BadRequest}
 use Rattle.http_session.specs.declared.bad_request.BadRequest.TheVariants as why
 use Rattle.http_session.specs.declared.reader.Stop.{Stop}
 use Rattle.http_session.specs.declared.reader.Stop.TheVariants as stop
-use Rattle.http_session.proofs.GoesLemmas.{took_then}
+use Rattle.link_trait.proofs.GoesLemmas.{took_then}
 
 -- a head stays where more bytes come
 pub head_stays : (bytes more : List ℕ) (head : RequestHead) (rest : List ℕ) → BeginsWithHead bytes head rest →

@@ -1,6 +1,6 @@
 -- What the answers of a reader say of its link, and of the bytes that came.
 use Rattle.std.specs.Prelude.{◌≡◌, ℕ, ◌+◌, min, List, [], ◌++◌, true, false}
-use Rattle.http_session.specs.Link.{Told, Took}
+use Rattle.link_trait.specs.Link.{Told, Took}
 use Rattle.http_session.specs.Takes.{IsWhole, IsBad, IsBetween}
 use Rattle.http_session.specs.Waiting.{Waiting}
 use Rattle.http_session.specs.declared.bad_request.BadRequest.{BadRequest}

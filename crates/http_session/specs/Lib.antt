@@ -1,4 +1,3 @@
-pub mod Link
 pub mod Heads
 pub mod HeadRead
 pub mod Named

@@ -1,7 +1,7 @@
 -- What a reader holds, beside what its link took.
 use Rattle.std.specs.Prelude.{◌≡◌, ℕ, ◌↔◌, List, [], ◌++◌, Result, Ok, Err}
-use Rattle.http_session.specs.declared.link.Failed.{Failed}
-use Rattle.http_session.specs.Link.{Told, Took, Stays}
+use Rattle.link_trait.specs.declared.link.Failed.{Failed}
+use Rattle.link_trait.specs.Link.{Told, Took, Stays}
 
 -- the bytes that the link took since then stand behind those that were held
 abbrev pub Pulled : List ℕ → List ℕ → Told → Told → Type 0

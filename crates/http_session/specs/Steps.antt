@@ -1,6 +1,6 @@
 -- The steps in which the reader takes a request: its head, its body, and the rest of that.
 use Rattle.std.specs.Prelude.{◌≡◌, ℕ, ◌<◌, List, [], ◌++◌, length, Result, Ok, Err, IfErr}
-use Rattle.http_session.specs.Link.{Told, Took, Rose}
+use Rattle.link_trait.specs.Link.{Told, Took, Rose}
 use Rattle.http_session.specs.Pulled.{Pulled}
 use Rattle.http_session.specs.Asked.{Asked}
 use Rattle.http_session.specs.Takes.{IsWhole}

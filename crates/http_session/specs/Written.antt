@@ -1,6 +1,6 @@
 -- What writing all of some bytes does to a link.
 use Rattle.std.specs.Prelude.{◌≡◌, ℕ, List, ◌++◌, Result, Ok, Err}
-use Rattle.http_session.specs.Link.{Told, Gave}
+use Rattle.link_trait.specs.Link.{Told, Gave}
 
 -- all of the bytes were given, or after a fault a prefix of them
 abbrev pub WriteAll : {T E : Type 0} → Result T E → List ℕ → Told → Told → Type 0

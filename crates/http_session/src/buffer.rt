@@ -1,10 +1,10 @@
 //! The bytes of a connection that were taken and belong to no request yet.
 ghost use Rattle.std.specs.Prelude.{◌≡◌, ◌+◌, ◌≤◌, ◌<◌, [], length, drop, OnErr, IfOk};
-ghost use Rattle.http_session.specs.Link.{HasCause, Goes};
+ghost use Rattle.link_trait.specs.Link.{HasCause, Goes};
 ghost use Rattle.http_session.specs.Pulled.{FillStep};
 
 use crate::head::HEAD_LIMIT;
-use crate::link::{Failed, Link};
+use link_trait::{Failed, Link};
 use std::alloc::{AllocError, Global};
 use std::marker::Model;
 

@@ -1,21 +1,20 @@
 //! Requests from a link, one after another.
 ghost use Rattle.std.specs.Prelude.{◌≡◌, ◌≤◌, ℕ, [], false, true, min, length, take, drop, IfOk, IfErr};
 ghost use Rattle.httparse.specs.Grammar.{RequestHead};
-ghost use Rattle.http_session.specs.Link.{Rose};
+ghost use Rattle.link_trait.specs.Link.{Told, Goes, Rose};
 ghost use Rattle.http_session.specs.HeadRead.{IsHeadAt};
 ghost use Rattle.http_session.specs.Answers.{Continues, AnswerStep};
 ghost use Rattle.http_session.specs.Steps.{IsFaultOf, StopsAt, HeadStep, BodyStep, RestStep, RequestStep};
 ghost use Rattle.http_session.specs.Heads.{IsUnfinished};
-ghost use Rattle.http_session.specs.Link.{Told, Goes};
 ghost use Rattle.http_session.specs.Asked.{Asked};
 
 use crate::bad_request::BadRequest;
 use crate::buffer::Buffer;
 use crate::framing::body_length;
 use crate::head::{HEADER_LIMIT, HeadRead, read_head, skip_lines};
-use crate::link::{Failed, LAST_MOMENT, Link};
 use crate::request::{REQUEST_LIMIT, Request};
 use httparse::spans::{EMPTY_HEADER_SPAN, HeaderSpan, RequestSpans};
+use link_trait::{Failed, LAST_MOMENT, Link};
 use std::alloc::Global;
 use std::marker::Model;
 use std::mem;

@@ -1,8 +1,9 @@
 //! What no clause says: whole exchanges, byte by byte.
 use crate::{
-    Allow, BadRequest, Body, Link, LinkFault, MemoryLink, Method, NextRequest, Reader, Reply,
-    Request, RequestParts, Status, StdioLink, Text, write_reply,
+    Allow, BadRequest, Body, LinkFault, Method, NextRequest, Reader, Reply, Request, RequestParts,
+    Status, Text, write_reply,
 };
+use link_trait::{Link, MemoryLink};
 use std::alloc::{AllocError, Global};
 use std::process::Abort;
 use std::test::Fail;
@@ -345,14 +346,5 @@ fn a_small_reply_goes_out_by_one_write(rt: HostRuntime) -> Result<(), Fail> {
     let length = link.given().len();
     assert!(rt; write_reply(&mut link, &reply) == Err(LinkFault(1)));
     assert_eq!(rt; link.given().len(), length);
-    Ok(())
-}
-
-#[test]
-fn the_real_clock_is_past_2020(rt: HostRuntime) -> Result<(), Fail> {
-    let mut link = StdioLink::new(rt.clone()?);
-    assert!(rt; 1_577_836_800_000 < link.moment());
-    assert_eq!(rt; link.faults(), 0);
-    link.end();
     Ok(())
 }

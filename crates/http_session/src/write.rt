@@ -1,13 +1,13 @@
 //! Writes replies to a link, without memory.
 ghost use Rattle.std.specs.Prelude.{◌≡◌, ◌+◌, ◌≤◌, ◌++◌, length, decimal, IfErr};
 ghost use Rattle.arrayvec.specs.ArrayVec.{array_vec_len};
-ghost use Rattle.http_session.specs.Link.{Goes, Rose};
+ghost use Rattle.link_trait.specs.Link.{Goes, Rose};
 ghost use Rattle.http_session.specs.Reply.{line, status_line, allow_line, front_line, close_line, head_of_reply, bytes_of_reply};
 ghost use Rattle.http_session.specs.Written.{WriteAll};
 
-use crate::link::{Failed, Link};
 use crate::reply::{Allow, Reply, Status};
 use arrayvec::ArrayVec;
+use link_trait::{Failed, Link};
 
 // Room for a head, and for a body that goes out with it: on a kept connection the second of two
 // small writes waits for the peer.

@@ -2,7 +2,7 @@
 use Rattle.std.proofs.Common.{◌≡◌, ◌+◌, ◌∙◌, ℕ, Bool, true, List, [], ◌∷◌, ◌++◌, refl, sym, ap, subst, inl, inr, append-nil}
 use Rattle.http_session.specs.Asked.{Asked}
 use Rattle.http_session.specs.Answers.{AnswerStep}
-use Rattle.http_session.specs.Link.{Told}
+use Rattle.link_trait.specs.Link.{Told}
 use Rattle.http_session.specs.Reply.{bytes_of_reply}
 use Rattle.http_session.specs.Takes.{IsWhole}
 use Rattle.http_session.specs.Waiting.{Waiting}

@@ -5,7 +5,7 @@ use Rattle.std.specs.List.{All, flat_map}
 use Rattle.std.proofs.lemmas.List.{take-append-le}
 use Rattle.std.proofs.lemmas.List.Concat.{flat_map-cons}
 use Rattle.std.proofs.lemmas.List.Elements.{All-nil, All-cons, All-weaker}
-use Rattle.http_session.specs.Link.{Told}
+use Rattle.link_trait.specs.Link.{Told}
 use Rattle.http_session.specs.Reply.{bytes_of_reply}
 use Rattle.profile_model.specs.History.{front_of}
 use Rattle.profile_model.specs.declared.push.Push.{Push}

@@ -1,7 +1,7 @@
 -- One connection, served to its end in turn: each reply over the history that the ones before it left.
 use Rattle.std.specs.Prelude.{◌≡◌, ◌⊎◌, ℕ, List, [], ◌∷◌, ◌++◌, map, Bool}
 use Rattle.http_session.specs.Asked.{Asked}
-use Rattle.http_session.specs.Link.{Told}
+use Rattle.link_trait.specs.Link.{Told}
 use Rattle.http_session.specs.declared.reply.Reply.{Reply}
 use Rattle.profile_model.specs.declared.push.Push.{Push}
 use Rattle.api_replies.specs.Meanings.{IsWrite}

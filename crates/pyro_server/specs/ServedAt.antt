@@ -2,7 +2,7 @@
 -- is over some front of its tenant's pushes.
 use Rattle.std.specs.Prelude.{◌≡◌, ◌+◌, ◌<◌, ◌≤◌, ℕ, Bool, List, [], ◌∷◌, ◌++◌, length, take, Option, Some, None}
 use Rattle.std.specs.List.{All}
-use Rattle.http_session.specs.Link.{Told}
+use Rattle.link_trait.specs.Link.{Told}
 use Rattle.http_session.specs.declared.reply.Status.TheVariants.{Ok}
 use Rattle.profile_model.specs.History.{front_of, pushes_of}
 use Rattle.profile_model.specs.declared.push.Push.{Push}

@@ -1,7 +1,7 @@
 -- What serving one request does to a link that tells.
 use Rattle.std.specs.Prelude.{◌≡◌, ◌⊎◌, ℕ, ◌+◌, Bool, List, ◌++◌}
 use Rattle.http_session.specs.Asked.{Asked}
-use Rattle.http_session.specs.Link.{Told, Gave}
+use Rattle.link_trait.specs.Link.{Told, Gave}
 use Rattle.http_session.specs.Reply.{bytes_of_reply}
 use Rattle.http_session.specs.Takes.{IsWhole}
 use Rattle.http_session.specs.Waiting.{Waiting}

@@ -10,8 +10,8 @@ mod status;
 mod tests;
 mod words;
 
-use http_session::StdioLink;
 pub use laws::{account_of_pushes, one_history, served_at_later_histories, tenants_are_apart};
+use link_trait::StdioLink;
 pub use outcome::{Outcome, run};
 pub use session::{Ended, run_session};
 pub use status::Status;

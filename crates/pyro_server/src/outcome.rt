@@ -1,6 +1,6 @@
 // The top call.
 ghost use Rattle.std.specs.Prelude.{◌≡◌, ◌↔◌, ◌⊎◌, [], false, map, string_bytes};
-ghost use Rattle.http_session.specs.Link.{Goes, Rose};
+ghost use Rattle.link_trait.specs.Link.{Goes, Rose};
 ghost use Rattle.pyro_server.specs.Served.{IsServedInTurn};
 ghost use Rattle.pyro_server.specs.ServedAt.{IsServedAt};
 ghost use Rattle.pyro_server.specs.Statuses.{IsUnstarted};
@@ -10,7 +10,7 @@ use crate::session::run_session;
 use crate::status::Status;
 use crate::words::{Command, command_of};
 use api_replies::Config;
-use http_session::Link;
+use link_trait::Link;
 use profile_model::Push;
 use routes::Routes;
 use std::alloc::Global;

@@ -1,6 +1,6 @@
 // One connection, served to its end.
 ghost use Rattle.std.specs.Prelude.{◌≡◌, ◌≢◌, ◌+◌, ◌<◌, ◌≤◌, [], true, false, min};
-ghost use Rattle.http_session.specs.Link.{Goes, Rose};
+ghost use Rattle.link_trait.specs.Link.{Goes, Rose};
 ghost use Rattle.http_session.specs.Reply.{bytes_of_reply};
 ghost use Rattle.http_session.specs.declared.reply.Reply.{Reply};
 ghost use Rattle.profile_model.specs.History.{HasBoundedTotals};
@@ -14,7 +14,8 @@ ghost use Rattle.pyro_server.specs.Steps.{GivesLast, GivesReply, IsAnswered, Ser
 use crate::settle::settle;
 use crate::status::Status;
 use api_replies::{Answered, Config, acknowledge, answer, closing_reply, memory_reply};
-use http_session::{BadRequest, Link, NextRequest, Reader, Reply, Request, write_reply};
+use http_session::{BadRequest, NextRequest, Reader, Reply, Request, write_reply};
+use link_trait::Link;
 use profile_model::Push;
 use std::alloc::Global;
 

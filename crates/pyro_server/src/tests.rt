@@ -5,7 +5,7 @@ mod refusals;
 mod talk;
 
 use crate::{Outcome, Status, run};
-use http_session::{Link, MemoryLink};
+use link_trait::{Link, MemoryLink};
 use std::alloc::{AllocError, Global};
 use std::process::Abort;
 use std::test::Fail;

@@ -1,6 +1,6 @@
 use Rattle.std.proofs.Common.{◌≡◌, ◌-◌, ◌≤◌, length, take, drop, arith, length-take, length-drop, ℕ, List, Ok}
-use Rattle.http_session.specs.Link.{Took, ReadStep}
-use Rattle.http_session.proofs.GoesLemmas.{goes_then}
+use Rattle.link_trait.specs.Link.{Took, ReadStep}
+use Rattle.link_trait.proofs.GoesLemmas.{goes_then}
 use Rattle.http_session.proofs.BufferLemmas.{rest_more, length_filled}
 use Rattle.http_session.proofs.reader.fill_rest.Goals as goal
 

@@ -1,5 +1,5 @@
 use Rattle.std.proofs.Common.{◌≤◌, ◌-◌, length, take}
-use Rattle.http_session.specs.Link.{Goes, Took}
+use Rattle.link_trait.specs.Link.{Goes, Took}
 use Rattle.http_session.proofs.reader.fill_rest.Given as goal
 
 abbrev pub invariant-loop-filled : goal.invariant-loop-filled

@@ -3,7 +3,7 @@ use Rattle.std.specs.Vec.{with_items}
 use Rattle.std.proofs.lemmas.List.{places}
 use Rattle.std.proofs.lemmas.Grind.{common_steps}
 use Rattle.http_session.specs.Steps.{RestStep}
-use Rattle.http_session.proofs.GoesLemmas.{goes_weaker}
+use Rattle.link_trait.proofs.GoesLemmas.{goes_weaker}
 use Rattle.http_session.proofs.BufferLemmas.{nothing_after}
 use Rattle.http_session.proofs.ReaderLemmas.{body_came}
 use Rattle.http_session.proofs.reader.take_body.Goals as goal

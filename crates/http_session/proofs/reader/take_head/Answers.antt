@@ -1,10 +1,10 @@
 use Rattle.std.proofs.Common.{◌≡◌, subst, arith, [], Ok, Err, List, ℕ}
 use Rattle.httparse.specs.declared.spans.RequestSpans.{RequestSpans}
-use Rattle.http_session.specs.Link.{Goes}
+use Rattle.link_trait.specs.Link.{Goes}
 use Rattle.http_session.specs.Pulled.{Pulled, FillStep}
 use Rattle.http_session.specs.Heads.{IsHeadTooLarge, IsUnfinished}
 use Rattle.http_session.specs.Steps.{HeadStep, StopsAt}
-use Rattle.http_session.proofs.GoesLemmas.{goes_weaker, goes_then}
+use Rattle.link_trait.proofs.GoesLemmas.{goes_weaker, goes_then}
 use Rattle.http_session.proofs.ReaderLemmas.{stopped}
 use Rattle.http_session.proofs.reader.take_head.Goals as goal
 

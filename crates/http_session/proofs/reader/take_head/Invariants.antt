@@ -1,5 +1,5 @@
 use Rattle.std.proofs.Common.{◌≤◌, ◌-◌, length}
-use Rattle.http_session.specs.Link.{Goes}
+use Rattle.link_trait.specs.Link.{Goes}
 use Rattle.http_session.specs.Pulled.{Pulled}
 use Rattle.http_session.proofs.reader.take_head.Given as goal
 

@@ -1,10 +1,10 @@
 use Rattle.std.proofs.Common.{◌≡◌, ◌∙◌, sym, ap, subst, ℕ, List, Ok, Vec, Global}
-use Rattle.http_session.specs.Link.{Told}
+use Rattle.link_trait.specs.Link.{Told}
 use Rattle.http_session.specs.Heads.{BeginsWithHead, headers_of}
 use Rattle.http_session.specs.Framing.{body_length_of}
 use Rattle.http_session.specs.Asked.{Asked}
 use Rattle.http_session.specs.Steps.{HeadStep, BodyStep}
-use Rattle.http_session.proofs.GoesLemmas.{goes_then}
+use Rattle.link_trait.proofs.GoesLemmas.{goes_then}
 use Rattle.http_session.proofs.RequestLemmas.{body_stops, request_whole, covers_here}
 use Rattle.http_session.proofs.reader.take_request.Goals as goal
 

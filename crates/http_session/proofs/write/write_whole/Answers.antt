@@ -1,7 +1,7 @@
 use Rattle.std.proofs.Common.{◌∙◌, ap, sym, arith, take, append_assoc, List, ℕ, ◌++◌}
 use Rattle.std.proofs.lemmas.List.{take_rest, take-append-drop}
-use Rattle.http_session.specs.Link.{Gave}
-use Rattle.http_session.proofs.GoesLemmas.{goes_then, gave_then}
+use Rattle.link_trait.specs.Link.{Gave}
+use Rattle.link_trait.proofs.GoesLemmas.{goes_then, gave_then}
 use Rattle.http_session.proofs.write.write_whole.Goals as goal
 
 pub loop-rest-preserved : goal.loop-rest-preserved

@@ -1,5 +1,5 @@
 use Rattle.std.proofs.Common.{◌≡◌, ◌≤◌, List, ℕ, ◌++◌, length}
-use Rattle.http_session.specs.Link.{Goes, Gave}
+use Rattle.link_trait.specs.Link.{Goes, Gave}
 use Rattle.http_session.proofs.write.write_whole.Given as goal
 
 abbrev pub invariant-loop-rest : goal.invariant-loop-rest

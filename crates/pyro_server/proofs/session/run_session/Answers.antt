@@ -1,4 +1,4 @@
-use Rattle.http_session.proofs.GoesLemmas.{goes_weaker}
+use Rattle.link_trait.proofs.GoesLemmas.{goes_weaker}
 use Rattle.pyro_server.proofs.Histories.{answers_are_isolated}
 use Rattle.pyro_server.proofs.ServingAt.{served_at}
 use Rattle.pyro_server.proofs.session.run_session.Goals as goal

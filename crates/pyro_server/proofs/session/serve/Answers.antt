@@ -2,7 +2,7 @@ use Rattle.std.proofs.Common.{◌≡◌, ◌+◌, ◌<◌, ◌==◌, ◌∙◌, 
 use Rattle.std.proofs.lemmas.Bool.Decides.{nat_tests}
 use Rattle.http_session.specs.Waiting.{Waiting}
 use Rattle.http_session.specs.Takes.{IsWhole}
-use Rattle.http_session.proofs.GoesLemmas.{goes_then, goes_nowhere}
+use Rattle.link_trait.proofs.GoesLemmas.{goes_then, goes_nowhere}
 use Rattle.pyro_server.specs.Given.{status_after}
 use Rattle.pyro_server.proofs.Sessions.{SoFar, at_first, one_more, ended, closed, last_closes}
 use Rattle.pyro_server.specs.declared.status.Status.TheVariants.{Done, LastRequest}

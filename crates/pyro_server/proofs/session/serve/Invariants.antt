@@ -1,5 +1,5 @@
 use Rattle.std.proofs.Common.{◌≡◌, ◌+◌, ◌≤◌, false}
-use Rattle.http_session.specs.Link.{Goes}
+use Rattle.link_trait.specs.Link.{Goes}
 use Rattle.profile_model.specs.History.{HasBoundedTotals}
 use Rattle.pyro_server.proofs.Sessions.{SoFar}
 use Rattle.pyro_server.proofs.session.serve.Given as goal

@@ -1,5 +1,5 @@
 use Rattle.std.proofs.Common.{◌≡◌, ◌+◌, refl, arith}
-use Rattle.http_session.proofs.GoesLemmas.{goes_then, goes_weaker}
+use Rattle.link_trait.proofs.GoesLemmas.{goes_then, goes_weaker}
 use Rattle.pyro_server.proofs.Serving.{answered_step, ended_step, failed_step, refused_step, starved_step}
 use Rattle.pyro_server.proofs.session.serve_next.Goals as goal
 

@@ -1,9 +1,9 @@
 use Rattle.std.proofs.Common.{◌≡◌, ◌+◌, ◌-◌, ◌<◌, ◌∙◌, ap, arith, rules, drop, take, length, ◌++◌, length-take, length-drop, List, ℕ, Ok}
 use Rattle.std.specs.Vec.{with_items}
 use Rattle.std.proofs.lemmas.List.{places}
-use Rattle.http_session.specs.Link.{ReadStep}
+use Rattle.link_trait.specs.Link.{ReadStep}
 use Rattle.http_session.specs.Pulled.{FillStep}
-use Rattle.http_session.proofs.GoesLemmas.{goes_weaker}
+use Rattle.link_trait.proofs.GoesLemmas.{goes_weaker}
 use Rattle.http_session.proofs.BufferLemmas.{fill_step, nothing_after}
 use Rattle.http_session.proofs.buffer.Buffer.fill.Goals as goal
 use borrow.Rule.Slice.PartMut.{post_of}

@@ -21,7 +21,7 @@ pub struct MemoryLink {
 
 impl Model for MemoryLink {
     ghost use Rattle.std.specs.Prelude.{◌≤◌, take, drop, length};
-    ghost use Rattle.http_session.specs.Link.{MemoryView};
+    ghost use Rattle.link_trait.specs.Link.{MemoryView};
 
     ghost Value = { MemoryView };
 

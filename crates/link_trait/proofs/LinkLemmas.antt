@@ -1,7 +1,7 @@
 -- What a read of a link in memory does to what it tells.
 use Rattle.std.proofs.Common.{◌≡◌, ℕ, ◌+◌, ◌-◌, ◌<◌, ◌≤◌, List, ◌++◌, length, take, drop, refl, sym, subst, ap, ap₂, ◌∙◌, arith, length-drop, Ok, slice_range}
 use Rattle.std.proofs.lemmas.List.{take-append-drop, drop-drop, take-take, drop-take, take_at, length-take-le, nil_from_length}
-use Rattle.http_session.specs.Link.{Told, Took, ReadStep}
+use Rattle.link_trait.specs.Link.{Told, Took, ReadStep}
 
 -- the first part of a list, in two parts
 pub take_two : (m n : ℕ) (xs : List ℕ) → take (m + n) xs ≡ take m xs ++ take n (drop m xs)

@@ -1,6 +1,6 @@
 //! The real standard streams and clock as a link. It tells nothing.
 ghost use Rattle.std.specs.Prelude.{◌≤◌, IfSome};
-ghost use Rattle.http_session.specs.Link.{Rose};
+ghost use Rattle.link_trait.specs.Link.{Rose};
 
 use crate::link::{Failed, LAST_MOMENT, Link};
 use std::io::Read;

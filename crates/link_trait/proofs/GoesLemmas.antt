@@ -1,6 +1,6 @@
 -- Steps of a link, one after another.
 use Rattle.std.proofs.Common.{ℕ, List, [], ◌++◌, refl, sym, ap, ◌∙◌, append_assoc, append-nil, Option}
-use Rattle.http_session.specs.Link.{Told, Goes, Took, Gave}
+use Rattle.link_trait.specs.Link.{Told, Goes, Took, Gave}
 
 -- two steps are one
 pub goes_then : (P Q R : Told → Told → Type 0) (x y z : Option Told) → ((a b c : Told) → P a b → Q b c → R a c) → Goes P x y → Goes Q y z → Goes R x z

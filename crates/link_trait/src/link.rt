@@ -1,6 +1,6 @@
 //! One connection, as the reader and the writer see it.
 ghost use Rattle.std.specs.Prelude.{◌≡◌, ℕ, ◌≤◌, ◌<◌, length, IfOk, Option};
-ghost use Rattle.http_session.specs.Link.{Told, Goes, ReadStep, WriteStep, Stays, HasCause};
+ghost use Rattle.link_trait.specs.Link.{Told, Goes, ReadStep, WriteStep, Stays, HasCause};
 
 /// The last moment: the end of the year 9999, in milliseconds since 1970.
 pub const LAST_MOMENT: u64 = 253_402_300_799_999;

@@ -1,6 +1,6 @@
 -- A link as contracts see it, and what each of its calls does to it.
 use Rattle.std.specs.Prelude.{◌≡◌, ℕ, ◌+◌, ◌-◌, ◌^◌, ◌<◌, ◌≤◌, ◌↔◌, min, List, [], ◌++◌, take, Option, Some, None, Result, Ok, Err, OnErr}
-use Rattle.http_session.specs.declared.link.Failed.{Failed}
+use Rattle.link_trait.specs.declared.link.Failed.{Failed}
 
 -- what a link tells: the bytes taken and given, the input still to come, and the moment that it always answers
 pub record Told : Type 0 where

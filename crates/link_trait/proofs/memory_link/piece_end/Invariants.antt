@@ -1,5 +1,5 @@
 use Rattle.std.proofs.Common.{◌<◌, ◌≤◌}
-use Rattle.http_session.proofs.memory_link.piece_end.Given as goal
+use Rattle.link_trait.proofs.memory_link.piece_end.Given as goal
 
 abbrev pub invariant-loop-cut : goal.invariant-loop-cut
 invariant-loop-cut l = record {

@@ -1,8 +1,8 @@
 use Rattle.std.proofs.Common.{◌≡◌, ◌+◌, sym, ◌∙◌, ap, refl, arith, drop, slice_range, List, ℕ, length, ◌≤◌, ◌<◌}
 use Rattle.std.proofs.lemmas.Grind.{common_steps}
-use Rattle.http_session.specs.Link.{MemoryView}
-use Rattle.http_session.proofs.LinkLemmas.{memory_read}
-use Rattle.http_session.proofs.memory_link.MemoryLinkLink.read.Goals as goal
+use Rattle.link_trait.specs.Link.{MemoryView}
+use Rattle.link_trait.proofs.LinkLemmas.{memory_read}
+use Rattle.link_trait.proofs.memory_link.MemoryLinkLink.read.Goals as goal
 
 pub returns-clause-told : goal.returns-clause-told
 returns-clause-told c =

@@ -1,0 +1,2 @@
+pub mod GoesLemmas
+mod LinkLemmas

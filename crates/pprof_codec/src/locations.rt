@@ -112,13 +112,6 @@ impl Locations {
         let number = self.ids.number(id)?;
         Some(&self.frames[number])
     }
-
-    // Whether there is a location with this id.
-    pub(crate) fn has(&self, id: u64) -> bool
-        ensures { result ≡ is_some (found_in self.now.ids self.now.frames.items id) }
-    {
-        self.frames(id).is_some()
-    }
 }
 
 // The first fault of a location, where those before it have these ids.

@@ -1,5 +1,5 @@
 // The samples of a profile, judged.
-ghost use Rattle.std.specs.Prelude.{◌≡◌, length, is_some, nat_lt, position};
+ghost use Rattle.std.specs.Prelude.{◌≡◌, length, min, is_some, position, IfSome};
 ghost use Rattle.std.specs.List.{flat_map, list_all};
 ghost use Rattle.pprof_message.specs.Gathered.{sample_in};
 ghost use Rattle.pprof_message.specs.Pprof.{Pprof};
@@ -47,10 +47,10 @@ fn sample_fault(
     if sample.values.len() != kinds {
         return Some(PprofFault::WrongValueCount { sample: number });
     }
-    if !has_locations(locations, sample.location_ids) {
+    let Some(depth) = depth_of(locations, sample.location_ids) else {
         return Some(PprofFault::NoSuchLocation { sample: number });
-    }
-    if is_too_deep(locations, sample.location_ids) {
+    };
+    if depth > MAX_FRAMES {
         return Some(PprofFault::TooDeep { sample: number });
     }
     if !has_all_texts(names, sample.labels) {
@@ -62,44 +62,25 @@ fn sample_fault(
     negative_value(sample.values, number)
 }
 
-// Whether each of these ids is a location's.
-fn has_locations(locations: &Locations, ids: &[u64]) -> bool
-    ensures { result ≡ list_all (λ id. is_some (found_in locations.now.ids locations.now.frames.items id)) ids.now }
-{
-    ids.iter().all(|id| locations.has(*id))
-}
-
 fn has_all_texts(names: &[Name], labels: &[Label]) -> bool
     ensures { result ≡ list_all (has_label_texts names.now) labels.now }
 {
     labels.iter().all(|label| has_label_texts(names, label))
 }
 
-// Whether these locations have more frames than a stack may have.
-fn is_too_deep(locations: &Locations, ids: &[u64]) -> bool
-    ensures { (pprof : Pprof) → AreLocations pprof locations.now.ids locations.now.frames.items →
-        result ≡ nat_lt 1024 (length (flat_map (frames_at pprof) ids.now)) }
+// How many frames these locations have together, and 1,025 for more than a stack may have.
+// None where an id is no location's.
+fn depth_of(locations: &Locations, ids: &[u64]) -> Option<usize>
+    ensures known { is_some result ≡ list_all (λ id. is_some (found_in locations.now.ids locations.now.frames.items id)) ids.now }
+    ensures depth { (pprof : Pprof) → AreLocations pprof locations.now.ids locations.now.frames.items →
+        IfSome result (λ depth. depth ≡ min (length (flat_map (frames_at pprof) ids.now)) 1025) }
 {
-    let mut room = MAX_FRAMES;
+    let mut depth = 0;
     for id in ids {
-        let depth = depth_of(locations, *id);
-        if depth > room {
-            return true;
-        }
-        room -= depth;
+        let frames = locations.frames(*id)?;
+        depth = frames.len().saturating_add(depth).min(MAX_FRAMES + 1);
     }
-    false
-}
-
-// How many frames the location with this id has.
-fn depth_of(locations: &Locations, id: u64) -> usize
-    ensures { (pprof : Pprof) → AreLocations pprof locations.now.ids locations.now.frames.items →
-        result ≡ length (frames_at pprof id) }
-{
-    match locations.frames(id) {
-        Some(frames) => frames.len(),
-        None => 0,
-    }
+    Some(depth)
 }
 
 fn negative_value(values: &[i64], number: u64) -> Option<PprofFault>

@@ -17,7 +17,7 @@ pub use session::{Ended, run_session};
 pub use status::Status;
 use std::alloc::Global;
 use std::process::ExitCode;
-use std::{env, io};
+use std::{env, io, mem};
 
 fn main(rt: HostRuntime) -> ExitCode {
     let Ok(words) = words_of(&rt) else {
@@ -26,6 +26,8 @@ fn main(rt: HostRuntime) -> ExitCode {
     let alloc = rt.alloc();
     let stdio = StdioLink::new(rt);
     let outcome = run(alloc, &words, (), stdio, (), (), &());
+    // The system takes the memory back with the process: to let go of each stack before would only delay the end.
+    mem::forget(outcome.history);
     ExitCode::from(outcome.status.code())
 }
 

@@ -1,7 +1,0 @@
-use Rattle.std.proofs.Common.{ap, ◌∙◌}
-use Rattle.std.specs.Prelude.{is_some}
-use Rattle.pprof_codec.proofs.TableLemmas.{is_some-copied}
-use Rattle.pprof_codec.proofs.locations.Locations.has.Goals as goal
-
-pub returns : goal.returns
-returns c = c.is_some.ensures ∙ is_some-copied c.frames.result ∙ ap is_some c.frames.ensures

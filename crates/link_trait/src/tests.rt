@@ -1,5 +1,5 @@
-//! What no clause says: that the real clock is read.
-use crate::{Link, StdioLink};
+//! What no clause says: that the real clock is read, where pieces end, and which calls fail.
+use crate::{Failed, Link, MemoryLink, StdioLink};
 use std::test::Fail;
 
 #[test]
@@ -8,5 +8,23 @@ fn the_real_clock_is_past_2020(rt: HostRuntime) -> Result<(), Fail> {
     assert!(rt; 1_577_836_800_000 < link.moment());
     assert_eq!(rt; link.faults(), 0);
     link.end();
+    Ok(())
+}
+
+#[test]
+fn pieces_end_at_the_cuts_and_chosen_calls_fail(rt: HostRuntime) -> Result<(), Fail> {
+    let alloc = rt.alloc();
+    let input = Vec::from_slice(alloc, b"abcde")?;
+    let cuts = Vec::from_slice(alloc, &[2, 2, 9])?;
+    let mut link = MemoryLink::new(alloc, input, cuts, 7, Vec::from_slice(alloc, &[1])?);
+    let mut room = [0; 8];
+    assert_eq!(rt; link.read(&mut room), Ok(2));
+    assert_eq!(rt; link.read(&mut room), Err(Failed));
+    assert_eq!(rt; link.read(&mut room[2..]), Ok(3));
+    assert_eq!(rt; link.read(&mut room), Ok(0));
+    assert_eq!(rt; &room, b"abcde\0\0\0");
+    assert_eq!(rt; link.write(b"xy"), Ok(2));
+    assert_eq!(rt; link.given(), b"xy".as_slice());
+    assert_eq!(rt; (link.moment(), link.faults(), link.refused()), (7, 1, 0));
     Ok(())
 }

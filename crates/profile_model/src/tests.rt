@@ -1,93 +1,174 @@
 // What no clause says: that each call succeeds with ample memory, and the texts of the faults.
 use crate::*;
 use std::alloc::{AllocError, Global};
+use std::cmp::Ordering;
 use std::sync::ArcSlice;
 use std::test::Fail;
 
-fn stack(alloc: Global, frames: &[&str]) -> Result<Stack, Fail> {
+// Stacks and their values: one stack comes twice, and one has nothing.
+const SAMPLES: [(&[&str], u64); 5] = [
+    (&["main", "b"], 5),
+    (&["main", "a"], 1),
+    (&["main"], 2),
+    (&["main", "a"], 2),
+    (&["main", "c"], 0),
+];
+
+fn names(alloc: Global, texts: &[&str]) -> Result<Vec<Name>, Fail> {
     let mut names = Vec::new(alloc);
-    for frame in frames {
-        names.push(Name::from_text(alloc, frame)?)?;
+    for text in texts {
+        names.push(Name::from_text(alloc, text)?)?;
     }
-    Ok(Stack::from_frames(ArcSlice::from_vec(names)?)?)
+    Ok(names)
+}
+
+fn frames(alloc: Global, texts: &[&str]) -> Result<ArcSlice<Name>, Fail> {
+    let names = names(alloc, texts)?;
+    Ok(ArcSlice::from_vec(names)?)
+}
+
+fn stack(alloc: Global, texts: &[&str]) -> Result<Stack, Fail> {
+    let frames = frames(alloc, texts)?;
+    Ok(Stack::from_frames(frames)?)
+}
+
+fn name_is_kept(alloc: Global, bytes: &[u8], text: &str, length: usize) -> Result<bool, Fail> {
+    let name = Name::read(alloc, bytes)?;
+    let copy = name.clone()?;
+    Ok(copy.as_str() == text && copy.len() == length && name == copy)
+}
+
+fn name_fault(alloc: Global, bytes: &[u8]) -> Option<NameFault> {
+    Name::read(alloc, bytes).err()
 }
 
 #[test]
 fn a_name_keeps_its_bytes_and_shares_them(rt: HostRuntime) -> Result<(), Fail> {
-    let name = Name::read(rt.alloc(), b"main.run")?;
-    let copy = name.clone()?;
-    assert_eq!(rt; copy.as_str(), "main.run");
-    assert_eq!(rt; copy.len(), 8);
-    assert!(rt; name == copy);
-    let broken = Name::read(rt.alloc(), b"ab\xffc").map(|_| ());
-    assert_eq!(rt; broken, Err(NameFault::NotUtf8(2)));
+    let alloc = rt.alloc();
+    assert!(rt; name_is_kept(alloc, b"main.run", "main.run", 8)?);
+    assert_eq!(rt; name_fault(alloc, b"ab\xffc"), Some(NameFault::NotUtf8(2)));
     Ok(())
+}
+
+fn depth(alloc: Global, texts: &[&str]) -> Result<usize, Fail> {
+    let stack = stack(alloc, texts)?;
+    Ok(stack.frames().len())
+}
+
+fn stack_fault(alloc: Global, texts: &[&str]) -> Result<Option<StackFault>, Fail> {
+    let frames = frames(alloc, texts)?;
+    Ok(Stack::from_frames(frames).err())
 }
 
 #[test]
 fn a_stack_is_refused_at_its_first_wrong_frame(rt: HostRuntime) -> Result<(), Fail> {
     let alloc = rt.alloc();
-    let deep = stack(alloc, &["main", "run", "loop"])?;
-    assert_eq!(rt; deep.frames().len(), 3);
-    let none = Stack::from_frames(ArcSlice::from_vec(Vec::new(alloc))?).map(|_| ());
-    assert_eq!(rt; none, Err(StackFault::NoFrames));
-    let mut names = Vec::new(alloc);
-    names.push(Name::from_text(alloc, "main")?)?;
-    names.push(Name::from_text(alloc, "")?)?;
-    let empty = Stack::from_frames(ArcSlice::from_vec(names)?).map(|_| ());
-    assert_eq!(rt; empty, Err(StackFault::EmptyFrame(1)));
+    assert_eq!(rt; depth(alloc, &["main", "run", "loop"])?, 3);
+    assert_eq!(rt; stack_fault(alloc, &[])?, Some(StackFault::NoFrames));
+    assert_eq!(rt;
+        stack_fault(alloc, &["main", ""])?,
+        Some(StackFault::EmptyFrame(1))
+    );
     Ok(())
+}
+
+fn equal_names(alloc: Global, count: usize) -> Result<Vec<Name>, Fail> {
+    let frame = Name::from_text(alloc, "f")?;
+    let mut names = Vec::new(alloc);
+    for _ in 0..count {
+        names.push(frame.clone()?)?;
+    }
+    Ok(names)
+}
+
+fn may_have_frames(alloc: Global, count: usize) -> Result<bool, Fail> {
+    let names = equal_names(alloc, count)?;
+    let frames = ArcSlice::from_vec(names)?;
+    Ok(Stack::from_frames(frames).is_ok())
 }
 
 #[test]
 fn a_stack_holds_1024_frames_and_no_more(rt: HostRuntime) -> Result<(), Fail> {
     let alloc = rt.alloc();
-    let frame = Name::from_text(alloc, "f")?;
-    for (count, fits) in [(1024, true), (1025, false)] {
-        let mut names = Vec::new(alloc);
-        for _ in 0..count {
-            names.push(frame.clone()?)?;
-        }
-        assert_eq!(rt;
-            Stack::from_frames(ArcSlice::from_vec(names)?).is_ok(),
-            fits,
-            "at {count}"
-        );
-    }
+    assert!(rt; may_have_frames(alloc, 1024)?);
+    assert!(rt; !may_have_frames(alloc, 1025)?);
     Ok(())
+}
+
+fn add(
+    alloc: Global,
+    sums: &mut StackSums,
+    texts: &[&str],
+    value: u64,
+) -> Result<Result<(), AddFault>, Fail> {
+    let stack = stack(alloc, texts)?;
+    Ok(sums.add(stack, value))
+}
+
+fn sums_of(alloc: Global, samples: &[(&[&str], u64)]) -> Result<StackSums, Fail> {
+    let mut sums = StackSums::new(alloc);
+    for (texts, value) in samples {
+        add(alloc, &mut sums, texts, *value)??;
+    }
+    Ok(sums)
+}
+
+fn count_and_total(alloc: Global) -> Result<(usize, u64), Fail> {
+    let sums = sums_of(alloc, &SAMPLES)?;
+    Ok((sums.len(), sums.total()))
+}
+
+fn values_in(alloc: Global, sums: &StackSums) -> Result<Vec<u64>, Fail> {
+    let mut values = Vec::new(alloc);
+    for (_stack, value) in sums.iter() {
+        values.push(*value)?;
+    }
+    Ok(values)
+}
+
+fn values_are(alloc: Global, expected: &[u64]) -> Result<bool, Fail> {
+    let sums = sums_of(alloc, &SAMPLES)?;
+    let values = values_in(alloc, &sums)?;
+    Ok(values.as_slice() == expected)
+}
+
+fn value_of(alloc: Global, sums: &StackSums, texts: &[&str]) -> Result<u64, Fail> {
+    let stack = stack(alloc, texts)?;
+    Ok(sums.value(&stack))
+}
+
+// What becomes of one value more than there is room for, of the most that there is room for, and of what was there.
+fn filled(alloc: Global) -> Result<(Result<(), AddFault>, Result<(), AddFault>, u64), Fail> {
+    let mut sums = sums_of(alloc, &SAMPLES)?;
+    let over = add(alloc, &mut sums, &["x"], MAX_TOTAL - 9)?;
+    let most = add(alloc, &mut sums, &["x"], MAX_TOTAL - 10)?;
+    let held = value_of(alloc, &sums, &["main", "b"])?;
+    Ok((over, most, held))
 }
 
 #[test]
 fn equal_stacks_are_summed_and_others_ascend(rt: HostRuntime) -> Result<(), Fail> {
     let alloc = rt.alloc();
-    let mut sums = StackSums::new(alloc);
-    sums.add(stack(alloc, &["main", "b"])?, 5)?;
-    sums.add(stack(alloc, &["main", "a"])?, 1)?;
-    sums.add(stack(alloc, &["main"])?, 2)?;
-    sums.add(stack(alloc, &["main", "a"])?, 2)?;
-    sums.add(stack(alloc, &["main", "c"])?, 0)?;
-    assert_eq!(rt; sums.len(), 3);
-    assert_eq!(rt; sums.total(), 10);
-    let mut values = Vec::new(alloc);
-    for (_stack, value) in sums.iter() {
-        values.push(*value)?;
-    }
-    assert_eq!(rt; values.as_slice(), [2, 3, 5].as_slice());
-    assert_eq!(rt;
-        sums.add(stack(alloc, &["x"])?, MAX_TOTAL - 9),
-        Err(AddFault::Sum)
-    );
-    assert_eq!(rt; sums.add(stack(alloc, &["x"])?, MAX_TOTAL - 10), Ok(()));
-    assert_eq!(rt; sums.value(&stack(alloc, &["main", "b"])?), 5);
+    assert_eq!(rt; count_and_total(alloc)?, (3, 10));
+    assert!(rt; values_are(alloc, &[2, 3, 5])?);
+    assert_eq!(rt; filled(alloc)?, (Err(AddFault::Sum), Ok(()), 5));
     Ok(())
+}
+
+fn tenant_is_kept(alloc: Global, bytes: &[u8]) -> Result<bool, Fail> {
+    let tenant = Tenant::read(alloc, bytes)?;
+    let copy = tenant.clone()?;
+    Ok(tenant.as_bytes() == bytes && tenant == copy)
+}
+
+fn tenant_fault(alloc: Global, bytes: &[u8]) -> Option<TenantFault> {
+    Tenant::read(alloc, bytes).err()
 }
 
 #[test]
 fn a_tenant_is_told_from_what_is_none(rt: HostRuntime) -> Result<(), Fail> {
     let alloc = rt.alloc();
-    let tenant = Tenant::read(alloc, b"team-1.(a)!*'_")?;
-    assert_eq!(rt; tenant.as_bytes(), b"team-1.(a)!*'_".as_slice());
-    assert!(rt; tenant == tenant.clone()?);
+    assert!(rt; tenant_is_kept(alloc, b"team-1.(a)!*'_")?);
     for (bytes, at) in [
         (b"".as_slice(), 0),
         (b".".as_slice(), 0),
@@ -98,84 +179,131 @@ fn a_tenant_is_told_from_what_is_none(rt: HostRuntime) -> Result<(), Fail> {
     ] {
         assert_eq!(rt; wrong_tenant_byte(bytes), Some(at));
         assert_eq!(rt;
-            Tenant::read(alloc, bytes).map(|_| ()),
-            Err(TenantFault::BadTenant(at))
+            tenant_fault(alloc, bytes),
+            Some(TenantFault::BadTenant(at))
         );
     }
     assert_eq!(rt; wrong_tenant_byte([b'a'; 150].as_slice()), None);
     Ok(())
 }
 
+fn type_is_kept(
+    alloc: Global,
+    text: &str,
+    name: &str,
+    sample_unit: &str,
+    period_unit: &str,
+) -> Result<bool, Fail> {
+    let kind = ProfileType::read(alloc, text)?;
+    let copy = kind.clone()?;
+    Ok(
+        kind.name.as_str() == name
+            && kind.sample_unit.as_str() == sample_unit
+            && kind.period_unit.as_str() == period_unit
+            && kind == copy,
+    )
+}
+
+fn has_period_type(alloc: Global, text: &str, period_type: &str) -> Result<bool, Fail> {
+    let kind = ProfileType::read(alloc, text)?;
+    Ok(kind.period_type.as_str() == period_type)
+}
+
+fn type_fault(alloc: Global, text: &str) -> Option<TypeFault> {
+    ProfileType::read(alloc, text).err()
+}
+
 #[test]
 fn a_type_has_five_parts(rt: HostRuntime) -> Result<(), Fail> {
     let alloc = rt.alloc();
-    let kind = ProfileType::read(alloc, "process_cpu:samples:count:cpu:nanoseconds")?;
-    assert_eq!(rt; kind.name.as_str(), "process_cpu");
-    assert_eq!(rt; kind.sample_unit.as_str(), "count");
-    assert_eq!(rt; kind.period_unit.as_str(), "nanoseconds");
-    assert!(rt; kind == kind.clone()?);
-    assert_eq!(rt; ProfileType::read(alloc, "::::")?.period_type.as_str(), "");
+    let text = "process_cpu:samples:count:cpu:nanoseconds";
+    assert!(rt; type_is_kept(alloc, text, "process_cpu", "count", "nanoseconds")?);
+    assert!(rt; has_period_type(alloc, "::::", "")?);
     for text in ["", "a:b:c:d", "a:b:c:d:e:f"] {
-        assert_eq!(rt;
-            ProfileType::read(alloc, text).map(|_| ()),
-            Err(TypeFault::NotFiveParts)
-        );
+        assert_eq!(rt; type_fault(alloc, text), Some(TypeFault::NotFiveParts));
     }
     Ok(())
+}
+
+fn profile_of_service(alloc: Global) -> Result<Profile, Fail> {
+    let service = Name::from_text(alloc, "app")?;
+    let labels = LabelSet::of_service(alloc, service)?;
+    let kind = ProfileType::read(alloc, "a:b:c:d:e")?;
+    let values = sums_of(alloc, &[(&["main"], 7)])?;
+    Ok(Profile {
+        labels,
+        kind,
+        time_ms: 1_700_000_000_000,
+        values,
+    })
+}
+
+fn count_of_labels(alloc: Global) -> Result<usize, Fail> {
+    let profile = profile_of_service(alloc)?;
+    Ok(profile.labels.pairs().len())
+}
+
+fn total_and_count(alloc: Global) -> Result<(u128, usize), Fail> {
+    let profile = profile_of_service(alloc)?;
+    let profiles = Profiles::one(alloc, profile)?;
+    let tenant = Tenant::read(alloc, b"t1")?;
+    let push = Push { tenant, profiles };
+    Ok((push.total(), push.profiles.as_slice().len()))
 }
 
 #[test]
 fn a_push_comes_to_the_sum_of_its_profiles(rt: HostRuntime) -> Result<(), Fail> {
     let alloc = rt.alloc();
-    let mut values = StackSums::new(alloc);
-    values.add(stack(alloc, &["main"])?, 7)?;
-    let labels = LabelSet::of_service(alloc, Name::from_text(alloc, "app")?)?;
-    assert_eq!(rt; labels.pairs().len(), 1);
-    let profile = Profile {
-        labels,
-        kind: ProfileType::read(alloc, "a:b:c:d:e")?,
-        time_ms: 1_700_000_000_000,
-        values,
-    };
-    let push = Push {
-        tenant: Tenant::read(alloc, b"t1")?,
-        profiles: Profiles::one(alloc, profile)?,
-    };
-    assert_eq!(rt; push.total(), 7);
-    assert_eq!(rt; push.profiles.as_slice().len(), 1);
+    assert_eq!(rt; count_of_labels(alloc)?, 1);
+    assert_eq!(rt; total_and_count(alloc)?, (7, 1));
     Ok(())
+}
+
+fn pair(alloc: Global, name: &str, value: &str) -> Result<(Name, Name), Fail> {
+    let name = Name::from_text(alloc, name)?;
+    let value = Name::from_text(alloc, value)?;
+    Ok((name, value))
 }
 
 fn pairs(alloc: Global, texts: &[(&str, &str)]) -> Result<Vec<(Name, Name)>, Fail> {
     let mut pairs = Vec::new(alloc);
     for (name, value) in texts {
-        pairs.push((
-            Name::from_text(alloc, name)?,
-            Name::from_text(alloc, value)?,
-        ))?;
+        pairs.push(pair(alloc, name, value)?)?;
     }
     Ok(pairs)
+}
+
+fn labels(alloc: Global, texts: &[(&str, &str)]) -> Result<LabelSet, Fail> {
+    let pairs = pairs(alloc, texts)?;
+    Ok(LabelSet::from_pairs(alloc, &pairs)?)
+}
+
+fn has_pairs(alloc: Global, labels: &LabelSet, texts: &[(&str, &str)]) -> Result<bool, Fail> {
+    let pairs = pairs(alloc, texts)?;
+    Ok(labels.pairs() == pairs.as_slice())
+}
+
+fn labels_are(
+    alloc: Global,
+    given: &[(&str, &str)],
+    expected: &[(&str, &str)],
+) -> Result<bool, Fail> {
+    let labels = labels(alloc, given)?;
+    has_pairs(alloc, &labels, expected)
 }
 
 #[test]
 fn labels_ascend_and_an_empty_value_is_left_out(rt: HostRuntime) -> Result<(), Fail> {
     let alloc = rt.alloc();
-    let given = pairs(
-        alloc,
-        &[
-            ("service_name", "app"),
-            ("pod", ""),
-            ("_z.9", "1"),
-            ("a", "{x}"),
-        ],
-    )?;
-    let labels = LabelSet::from_pairs(alloc, &given)?;
-    let wanted = pairs(
-        alloc,
-        &[("_z.9", "1"), ("a", "{x}"), ("service_name", "app")],
-    )?;
-    assert_eq!(rt; labels.pairs(), wanted.as_slice());
-    assert_eq!(rt; LabelSet::from_pairs(alloc, &[])?.pairs().len(), 0);
+    let given = [
+        ("service_name", "app"),
+        ("pod", ""),
+        ("_z.9", "1"),
+        ("a", "{x}"),
+    ];
+    let ascending = [("_z.9", "1"), ("a", "{x}"), ("service_name", "app")];
+    assert!(rt; labels_are(alloc, &given, &ascending)?);
+    assert!(rt; labels_are(alloc, &[], &[])?);
     Ok(())
 }
 
@@ -187,7 +315,7 @@ fn long_text(alloc: Global, length: usize) -> Result<String, Fail> {
     Ok(text)
 }
 
-fn refused(
+fn fault_of(
     alloc: Global,
     first: (&str, &str),
     second: (&str, &str),
@@ -196,170 +324,250 @@ fn refused(
     Ok(LabelSet::from_pairs(alloc, &given).err())
 }
 
+// The first of the cases that isn't refused as it should be; `name` and `value` are too long.
+fn wrong_case(alloc: Global, name: &str, value: &str) -> Result<Option<usize>, Fail> {
+    let cases = [
+        (("a", "1"), ("", "2"), LabelFault::BadName(1)),
+        (("9a", "1"), ("b", value), LabelFault::BadName(0)),
+        (("a-b", "1"), ("a", "2"), LabelFault::BadName(0)),
+        ((name, "1"), ("a", "2"), LabelFault::BadName(0)),
+        (("a", value), ("", "2"), LabelFault::BadValue(0)),
+        (("a", "1"), ("a", value), LabelFault::BadValue(1)),
+        (("a", ""), ("a", "2"), LabelFault::Repeated(1)),
+        (("a", "1"), ("a", ""), LabelFault::Repeated(1)),
+    ];
+    for (at, (first, second, fault)) in cases.iter().enumerate() {
+        if fault_of(alloc, *first, *second)? != Some(*fault) {
+            return Ok(Some(at));
+        }
+    }
+    Ok(None)
+}
+
+fn wrong_case_of_lengths(
+    alloc: Global,
+    name_length: usize,
+    value_length: usize,
+) -> Result<Option<usize>, Fail> {
+    let name = long_text(alloc, name_length)?;
+    let value = long_text(alloc, value_length)?;
+    wrong_case(alloc, name.as_str(), value.as_str())
+}
+
+fn is_taken_at_lengths(
+    alloc: Global,
+    name_length: usize,
+    value_length: usize,
+) -> Result<bool, Fail> {
+    let name = long_text(alloc, name_length)?;
+    let value = long_text(alloc, value_length)?;
+    let longest = [(name.as_str(), value.as_str())];
+    labels_are(alloc, &longest, &longest)
+}
+
 #[test]
 fn pairs_are_refused_at_the_first_that_breaks_a_rule(rt: HostRuntime) -> Result<(), Fail> {
     let alloc = rt.alloc();
-    let (name, value) = (long_text(alloc, 1025)?, long_text(alloc, 2049)?);
-    let (name, value) = (name.as_str(), value.as_str());
-    assert_eq!(rt;
-        refused(alloc, ("a", "1"), ("", "2"))?,
-        Some(LabelFault::BadName(1))
-    );
-    assert_eq!(rt;
-        refused(alloc, ("9a", "1"), ("b", value))?,
-        Some(LabelFault::BadName(0))
-    );
-    assert_eq!(rt;
-        refused(alloc, ("a-b", "1"), ("a", "2"))?,
-        Some(LabelFault::BadName(0))
-    );
-    assert_eq!(rt;
-        refused(alloc, (name, "1"), ("a", "2"))?,
-        Some(LabelFault::BadName(0))
-    );
-    assert_eq!(rt;
-        refused(alloc, ("a", value), ("", "2"))?,
-        Some(LabelFault::BadValue(0))
-    );
-    assert_eq!(rt;
-        refused(alloc, ("a", "1"), ("a", value))?,
-        Some(LabelFault::BadValue(1))
-    );
-    assert_eq!(rt;
-        refused(alloc, ("a", ""), ("a", "2"))?,
-        Some(LabelFault::Repeated(1))
-    );
-    assert_eq!(rt;
-        refused(alloc, ("a", "1"), ("a", ""))?,
-        Some(LabelFault::Repeated(1))
-    );
-    let (name, value) = (long_text(alloc, 1024)?, long_text(alloc, 2048)?);
-    let edge = pairs(alloc, &[(name.as_str(), value.as_str())])?;
-    assert_eq!(rt;
-        LabelSet::from_pairs(alloc, &edge)?.pairs(),
-        edge.as_slice()
-    );
+    assert_eq!(rt; wrong_case_of_lengths(alloc, 1025, 2049)?, None);
+    assert!(rt; is_taken_at_lengths(alloc, 1024, 2048)?);
     Ok(())
+}
+
+fn numbered_pair(alloc: Global, number: usize) -> Result<(Name, Name), Fail> {
+    let name = format!(in alloc; "l{number}")?;
+    pair(alloc, name.as_str(), "v")
+}
+
+// A pair without a value, and 30 that have one.
+fn thirty_pairs(alloc: Global) -> Result<Vec<(Name, Name)>, Fail> {
+    let mut given = pairs(alloc, &[("none", "")])?;
+    for number in 0..30 {
+        given.push(numbered_pair(alloc, number)?)?;
+    }
+    Ok(given)
+}
+
+fn count_of_thirty(alloc: Global) -> Result<usize, Fail> {
+    let given = thirty_pairs(alloc)?;
+    let labels = LabelSet::from_pairs(alloc, &given)?;
+    Ok(labels.pairs().len())
+}
+
+fn fault_of_one_more(alloc: Global) -> Result<Option<LabelFault>, Fail> {
+    let mut given = thirty_pairs(alloc)?;
+    given.push(pair(alloc, "last", "v")?)?;
+    Ok(LabelSet::from_pairs(alloc, &given).err())
 }
 
 #[test]
 fn thirty_labels_have_a_value_and_no_more(rt: HostRuntime) -> Result<(), Fail> {
     let alloc = rt.alloc();
-    let mut given = pairs(alloc, &[("none", "")])?;
-    for number in 0..30 {
-        let name = format!(in alloc; "l{number}")?;
-        given.push((Name::from_text(alloc, &name)?, Name::from_text(alloc, "v")?))?;
-    }
-    assert_eq!(rt; LabelSet::from_pairs(alloc, &given)?.pairs().len(), 30);
-    given.push((
-        Name::from_text(alloc, "last")?,
-        Name::from_text(alloc, "v")?,
-    ))?;
-    assert_eq!(rt;
-        LabelSet::from_pairs(alloc, &given),
-        Err(LabelFault::TooMany)
-    );
+    assert_eq!(rt; count_of_thirty(alloc)?, 30);
+    assert_eq!(rt; fault_of_one_more(alloc)?, Some(LabelFault::TooMany));
     Ok(())
+}
+
+fn put(alloc: Global, labels: &mut LabelSet, name: &str, value: &str) -> Result<(), Fail> {
+    let (name, value) = pair(alloc, name, value)?;
+    Ok(labels.set(name, value)?)
+}
+
+// The labels of a service, with a pod that is put twice and a zone.
+fn put_labels(alloc: Global) -> Result<LabelSet, Fail> {
+    let mut labels = LabelSet::of_service(alloc, Name::from_text(alloc, "app")?)?;
+    for (name, value) in [("pod", "p1"), ("zone", "eu"), ("pod", "p2")] {
+        put(alloc, &mut labels, name, value)?;
+    }
+    Ok(labels)
+}
+
+fn are_put(alloc: Global, expected: &[(&str, &str)]) -> Result<bool, Fail> {
+    let labels = put_labels(alloc)?;
+    has_pairs(alloc, &labels, expected)
+}
+
+fn is_found(alloc: Global, name: &str, value: &str) -> Result<bool, Fail> {
+    let labels = put_labels(alloc)?;
+    Ok(match labels.get(name.as_bytes()) {
+        Some(found) => found.as_str() == value,
+        None => false,
+    })
+}
+
+fn is_absent(alloc: Global, name: &str) -> Result<bool, Fail> {
+    let labels = put_labels(alloc)?;
+    Ok(labels.get(name.as_bytes()).is_none())
+}
+
+fn without_service(alloc: Global) -> Result<LabelSet, Fail> {
+    let labels = put_labels(alloc)?;
+    Ok(labels.without(b"service_name").without(b"po"))
+}
+
+fn are_left(alloc: Global, expected: &[(&str, &str)]) -> Result<bool, Fail> {
+    let labels = without_service(alloc)?;
+    has_pairs(alloc, &labels, expected)
+}
+
+fn are_copied(alloc: Global) -> Result<bool, Fail> {
+    let labels = without_service(alloc)?;
+    let copy = labels.clone()?;
+    Ok(copy == labels)
 }
 
 #[test]
 fn a_label_is_put_found_and_left_out(rt: HostRuntime) -> Result<(), Fail> {
     let alloc = rt.alloc();
-    let mut labels = LabelSet::of_service(alloc, Name::from_text(alloc, "app")?)?;
-    labels.set(
-        Name::from_text(alloc, "pod")?,
-        Name::from_text(alloc, "p1")?,
-    )?;
-    labels.set(
-        Name::from_text(alloc, "zone")?,
-        Name::from_text(alloc, "eu")?,
-    )?;
-    labels.set(
-        Name::from_text(alloc, "pod")?,
-        Name::from_text(alloc, "p2")?,
-    )?;
-    let all = pairs(
-        alloc,
-        &[("pod", "p2"), ("service_name", "app"), ("zone", "eu")],
-    )?;
-    assert_eq!(rt; labels.pairs(), all.as_slice());
-    for (name, value) in all.as_slice() {
-        assert_eq!(rt; labels.get(name.as_bytes()), Some(value));
+    let all = [("pod", "p2"), ("service_name", "app"), ("zone", "eu")];
+    assert!(rt; are_put(alloc, &all)?);
+    for (name, value) in all {
+        assert!(rt; is_found(alloc, name, value)?, "{name}");
     }
-    assert_eq!(rt; labels.get(b"po"), None);
-    let fewer = labels.without(b"service_name").without(b"po");
-    let left = pairs(alloc, &[("pod", "p2"), ("zone", "eu")])?;
-    assert_eq!(rt; fewer.pairs(), left.as_slice());
-    assert_eq!(rt; fewer.clone()?, fewer);
+    assert!(rt; is_absent(alloc, "po")?);
+    assert!(rt; are_left(alloc, &[("pod", "p2"), ("zone", "eu")])?);
+    assert!(rt; are_copied(alloc)?);
     Ok(())
 }
 
-fn labels(alloc: Global, texts: &[(&str, &str)]) -> Result<LabelSet, Fail> {
-    let pairs = pairs(alloc, texts)?;
-    Ok(LabelSet::from_pairs(alloc, &pairs)?)
+fn order(alloc: Global, one: &[(&str, &str)], other: &[(&str, &str)]) -> Result<Ordering, Fail> {
+    let one = labels(alloc, one)?;
+    let other = labels(alloc, other)?;
+    Ok(one.cmp(&other))
 }
 
 #[test]
 fn label_sets_are_ordered_as_lists_of_pairs(rt: HostRuntime) -> Result<(), Fail> {
-    let alloc = rt.alloc();
-    let mut sets = Vec::new(alloc);
-    sets.push(labels(alloc, &[])?)?;
-    sets.push(labels(alloc, &[("a", "1")])?)?;
-    sets.push(labels(alloc, &[("a", "1"), ("b", "1")])?)?;
-    sets.push(labels(alloc, &[("a", "10")])?)?;
-    sets.push(labels(alloc, &[("a", "2"), ("b", "0")])?)?;
-    sets.push(labels(alloc, &[("b", "0")])?)?;
+    let sets: [&[(&str, &str)]; 6] = [
+        &[],
+        &[("a", "1")],
+        &[("a", "1"), ("b", "1")],
+        &[("a", "10")],
+        &[("a", "2"), ("b", "0")],
+        &[("b", "0")],
+    ];
     for (i, one) in sets.iter().enumerate() {
         for (j, other) in sets.iter().enumerate() {
-            assert_eq!(rt; one.cmp(other), i.cmp(&j), "{i} and {j}");
+            assert_eq!(rt; order(rt.alloc(), one, other)?, i.cmp(&j), "{i} and {j}");
         }
     }
     Ok(())
 }
 
+fn is_cleaned(alloc: Global, text: &str, expected: &str) -> Result<bool, Fail> {
+    let name = Name::cleaned(alloc, text)?;
+    Ok(name.as_str() == expected)
+}
+
+fn is_written_as_read(alloc: Global, text: &str) -> Result<bool, Fail> {
+    let kind = ProfileType::read(alloc, text)?;
+    let written = kind.to_string(alloc)?;
+    Ok(written.as_str() == text)
+}
+
 #[test]
 fn marks_are_cleaned_and_a_type_is_written(rt: HostRuntime) -> Result<(), Fail> {
     let alloc = rt.alloc();
-    assert_eq!(rt; Name::cleaned(alloc, "a:b{c}\"é")?.as_str(), "a_b_c__é");
-    let kind = ProfileType::read(alloc, "cpu::count:c p:ns")?;
-    let text = kind.to_string(alloc)?;
-    assert_eq!(rt; text.as_str(), "cpu::count:c p:ns");
+    assert!(rt; is_cleaned(alloc, "a:b{c}\"é", "a_b_c__é")?);
+    assert!(rt; is_written_as_read(alloc, "cpu::count:c p:ns")?);
     Ok(())
 }
 
-fn profile(alloc: Global, service: &str, values: &StackSums) -> Result<Profile, Fail> {
+fn weight_of_stack(alloc: Global, texts: &[&str]) -> Result<u64, Fail> {
+    let stack = stack(alloc, texts)?;
+    Ok(stack.weight())
+}
+
+fn profile(alloc: Global, service: &str) -> Result<Profile, Fail> {
     let pairs = pairs(alloc, &[("service_name", service)])?;
+    let labels = LabelSet::from_pairs(alloc, &pairs)?;
+    let kind = ProfileType::read(alloc, "cpu::count:c p:ns")?;
+    let values = sums_of(alloc, &[(&["main"], 7), (&["main", "run"], 1)])?;
     Ok(Profile {
-        labels: LabelSet::from_pairs(alloc, &pairs)?,
-        kind: ProfileType::read(alloc, "cpu::count:c p:ns")?,
+        labels,
+        kind,
         time_ms: 0,
-        values: values.clone()?,
+        values,
     })
+}
+
+fn profiles(alloc: Global) -> Result<Profiles, Fail> {
+    let mut items = Vec::new(alloc);
+    items.push(profile(alloc, "app")?)?;
+    items.push(profile(alloc, "other")?)?;
+    Ok(Profiles::from_vec(items))
+}
+
+fn weights_in(alloc: Global, profiles: &[Profile]) -> Result<Vec<u64>, Fail> {
+    let mut weights = Vec::new(alloc);
+    for profile in profiles {
+        weights.push(profile.weight())?;
+    }
+    Ok(weights)
+}
+
+fn profiles_weigh(alloc: Global, expected: &[u64]) -> Result<bool, Fail> {
+    let profiles = profiles(alloc)?;
+    let weights = weights_in(alloc, profiles.as_slice())?;
+    Ok(weights.as_slice() == expected)
+}
+
+fn weight_of_push(alloc: Global) -> Result<u64, Fail> {
+    let profiles = profiles(alloc)?;
+    let tenant = Tenant::read(alloc, b"t1")?;
+    let push = Push { tenant, profiles };
+    Ok(push.weight())
 }
 
 #[test]
 fn a_push_weighs_what_it_holds(rt: HostRuntime) -> Result<(), Fail> {
     let alloc = rt.alloc();
     assert_eq!(rt;
-        stack(alloc, &["main", "run"])?.weight(),
+        weight_of_stack(alloc, &["main", "run"])?,
         16 + (16 + 4) + (16 + 3)
     );
-    let mut values = StackSums::new(alloc);
-    values.add(stack(alloc, &["main"])?, 7)?;
-    values.add(stack(alloc, &["main", "run"])?, 1)?;
-    let mut items = Vec::new(alloc);
-    items.push(profile(alloc, "app", &values)?)?;
-    items.push(profile(alloc, "other", &values)?)?;
-    let push = Push {
-        tenant: Tenant::read(alloc, b"t1")?,
-        profiles: Profiles::from_vec(items),
-    };
     // The label, the type's five parts and the two stacks.
     let first = 128 + (16 + 12 + 3) + (3 + 5 + 3 + 2) + 36 + 55;
-    assert_eq!(rt; push.profiles.as_slice().len(), 2);
-    for (profile, weight) in push.profiles.as_slice().iter().zip([first, first + 2]) {
-        assert_eq!(rt; profile.weight(), weight);
-    }
-    assert_eq!(rt; push.weight(), 256 + 2 * first + 2);
+    assert!(rt; profiles_weigh(alloc, &[first, first + 2])?);
+    assert_eq!(rt; weight_of_push(alloc)?, 256 + 2 * first + 2);
     Ok(())
 }

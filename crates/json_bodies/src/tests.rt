@@ -1,18 +1,25 @@
 use crate::{
-    FieldFault, JsonFault, JsonObject, LabelNamesBody, LabelValuesBody, PushBody, SeriesBody,
-    ShapeFault, faults_exclude_bodies,
+    FieldFault, JsonFault, JsonObject, LabelNamesBody, LabelValuesBody, PushBody, PushedSeries,
+    SeriesBody, ShapeFault, faults_exclude_bodies,
 };
+use profile_model::Name;
 use std::alloc::Global;
 use std::test::Fail;
 
-fn object(alloc: Global, text: &str) -> Result<JsonObject, JsonFault> {
-    JsonObject::read_or_empty(alloc, text.as_bytes())
+const LATEST: u64 = 253_402_300_799_999;
+
+fn fault_of_body(alloc: Global, body: &[u8]) -> Option<JsonFault> {
+    JsonObject::read(alloc, body).err()
+}
+
+fn fault_of_body_or_none(alloc: Global, body: &[u8]) -> Option<JsonFault> {
+    JsonObject::read_or_empty(alloc, body).err()
 }
 
 #[test]
 fn only_an_object_is_a_body(rt: HostRuntime) -> Result<(), Fail> {
     let alloc = rt.alloc();
-    assert!(rt; JsonObject::read(alloc, b" {\"a\": 1.5e3, \"b\": [null]}").is_ok());
+    assert!(rt; fault_of_body(alloc, b" {\"a\": 1.5e3, \"b\": [null]}").is_none());
     let refused: [&[u8]; 7] = [
         b"",
         b"[]",
@@ -22,77 +29,130 @@ fn only_an_object_is_a_body(rt: HostRuntime) -> Result<(), Fail> {
         b"{} {}",
         b"{\"a\":\"\xFF\"}",
     ];
-    for body in &refused {
-        assert!(rt; JsonObject::read(alloc, body).err() == Some(JsonFault::NotObject));
+    for body in refused {
+        assert!(rt; fault_of_body(alloc, body) == Some(JsonFault::NotObject));
     }
-    assert!(rt; JsonObject::read_or_empty(alloc, b"").is_ok());
-    assert!(rt; JsonObject::read_or_empty(alloc, b" ").err() == Some(JsonFault::NotObject));
-    assert!(rt; JsonObject::read_or_empty(alloc, b"[]").err() == Some(JsonFault::NotObject));
+    assert!(rt; fault_of_body_or_none(alloc, b"").is_none());
+    assert!(rt; fault_of_body_or_none(alloc, b" ") == Some(JsonFault::NotObject));
+    assert!(rt; fault_of_body_or_none(alloc, b"[]") == Some(JsonFault::NotObject));
     Ok(())
+}
+
+fn object(alloc: Global, text: &str) -> Result<JsonObject, JsonFault> {
+    JsonObject::read_or_empty(alloc, text.as_bytes())
+}
+
+fn are_texts(texts: &[&str], expected: &[&str]) -> bool {
+    texts == expected
+}
+
+fn asks_names(
+    alloc: Global,
+    text: &str,
+    matchers: &[&str],
+    start_ms: u64,
+    end_ms: u64,
+) -> Result<bool, Fail> {
+    let body = object(alloc, text)?;
+    let query = LabelNamesBody::of(alloc, &body)?;
+    Ok(are_texts(&query.matchers, matchers) && query.start_ms == start_ms && query.end_ms == end_ms)
 }
 
 #[test]
 fn a_query_of_names_has_matchers_and_a_window(rt: HostRuntime) -> Result<(), Fail> {
     let alloc = rt.alloc();
-    let body = object(
-        alloc,
-        "{\"end\":\"0020\",\"matchers\":[\"{a=\\\"b\\\"}\",\"{}\"],\"other\":null,\"start\":10}",
-    )?;
-    let query = LabelNamesBody::of(alloc, &body)?;
-    assert!(rt; query.matchers.len() == 2);
-    assert!(rt; query.matchers.get(0).copied() == Some("{a=\"b\"}"));
-    assert!(rt; query.matchers.get(1).copied() == Some("{}"));
-    assert!(rt; query.start_ms == 10);
-    assert!(rt; query.end_ms == 20);
-    let empty = object(alloc, "")?;
-    let query = LabelNamesBody::of(alloc, &empty)?;
-    assert!(rt; query.matchers.is_empty());
-    assert!(rt; query.start_ms == 0);
-    assert!(rt; query.end_ms == 253_402_300_799_999);
+    let text =
+        "{\"end\":\"0020\",\"matchers\":[\"{a=\\\"b\\\"}\",\"{}\"],\"other\":null,\"start\":10}";
+    assert!(rt; asks_names(alloc, text, &["{a=\"b\"}", "{}"], 10, 20)?);
+    assert!(rt; asks_names(alloc, "", &[], 0, LATEST)?);
     Ok(())
+}
+
+fn is_text(text: &str, expected: &str) -> bool {
+    text == expected
+}
+
+fn asks_values(
+    alloc: Global,
+    text: &str,
+    name: &str,
+    matchers: &[&str],
+    start_ms: u64,
+    end_ms: u64,
+) -> Result<bool, Fail> {
+    let body = object(alloc, text)?;
+    let query = LabelValuesBody::of(alloc, &body)?;
+    Ok(
+        is_text(query.name, name)
+            && are_texts(&query.matchers, matchers)
+            && query.start_ms == start_ms
+            && query.end_ms == end_ms,
+    )
 }
 
 #[test]
 fn a_query_of_values_names_a_label(rt: HostRuntime) -> Result<(), Fail> {
     let alloc = rt.alloc();
-    let body = object(
-        alloc,
-        "{\"name\":\"env\",\"matchers\":[\"{}\"],\"start\":\"9999999999999999999\",\"end\":18446744073709551615}",
-    )?;
-    let query = LabelValuesBody::of(alloc, &body)?;
-    assert!(rt; query.name == "env");
-    assert!(rt; query.matchers.len() == 1);
-    assert!(rt; query.matchers.get(0).copied() == Some("{}"));
-    assert!(rt; query.start_ms == 9_999_999_999_999_999_999);
-    assert!(rt; query.end_ms == 253_402_300_799_999);
-    let empty = object(alloc, "{}")?;
-    let query = LabelValuesBody::of(alloc, &empty)?;
-    assert!(rt; query.name == "");
-    assert!(rt; query.matchers.is_empty());
+    let text =
+        "{\"name\":\"env\",\"matchers\":[\"{}\"],\"start\":\"9999999999999999999\",\"end\":18446744073709551615}";
+    assert!(rt;
+        asks_values(
+            alloc,
+            text,
+            "env",
+            &["{}"],
+            9_999_999_999_999_999_999,
+            LATEST
+        )?
+    );
+    assert!(rt; asks_values(alloc, "{}", "", &[], 0, LATEST)?);
     Ok(())
+}
+
+fn asks_series(
+    alloc: Global,
+    text: &str,
+    matchers: &[&str],
+    label_names: &[&str],
+    start_ms: u64,
+    end_ms: u64,
+) -> Result<bool, Fail> {
+    let body = object(alloc, text)?;
+    let query = SeriesBody::of(alloc, &body)?;
+    Ok(
+        are_texts(&query.matchers, matchers)
+            && are_texts(&query.label_names, label_names)
+            && query.start_ms == start_ms
+            && query.end_ms == end_ms,
+    )
 }
 
 #[test]
 fn a_query_of_series_cuts_to_names(rt: HostRuntime) -> Result<(), Fail> {
-    let alloc = rt.alloc();
-    let body = object(
-        alloc,
-        "{\"matchers\":[],\"labelNames\":[\"env\",\"a\"],\"start\":0,\"end\":\"0\"}",
-    )?;
-    let query = SeriesBody::of(alloc, &body)?;
-    assert!(rt; query.matchers.is_empty());
-    assert!(rt; query.label_names.len() == 2);
-    assert!(rt; query.label_names.get(0).copied() == Some("env"));
-    assert!(rt; query.label_names.get(1).copied() == Some("a"));
-    assert!(rt; query.start_ms == 0);
-    assert!(rt; query.end_ms == 253_402_300_799_999);
+    let text = "{\"matchers\":[],\"labelNames\":[\"env\",\"a\"],\"start\":0,\"end\":\"0\"}";
+    assert!(rt; asks_series(rt.alloc(), text, &[], &["env", "a"], 0, LATEST)?);
     Ok(())
+}
+
+fn fault_of_names(alloc: Global, text: &str) -> Result<Option<FieldFault>, Fail> {
+    let body = object(alloc, text)?;
+    Ok(LabelNamesBody::of(alloc, &body).err())
+}
+
+fn fault_of_values(alloc: Global, text: &str) -> Result<Option<FieldFault>, Fail> {
+    let body = object(alloc, text)?;
+    Ok(LabelValuesBody::of(alloc, &body).err())
+}
+
+fn fault_of_series(alloc: Global, text: &str) -> Result<Option<FieldFault>, Fail> {
+    let body = object(alloc, text)?;
+    Ok(SeriesBody::of(alloc, &body).err())
 }
 
 #[test]
 fn the_first_field_of_a_wrong_kind_is_told(rt: HostRuntime) -> Result<(), Fail> {
     let alloc = rt.alloc();
-    let cases = [
+    for (text, number) in [
         ("{\"matchers\":null}", 0),
         ("{\"matchers\":\"{}\",\"start\":-1}", 0),
         ("{\"matchers\":[\"{}\",1],\"end\":null}", 0),
@@ -107,57 +167,79 @@ fn the_first_field_of_a_wrong_kind_is_told(rt: HostRuntime) -> Result<(), Fail> 
         ("{\"start\":null}", 1),
         ("{\"end\":\"1 \"}", 2),
         ("{\"end\":true}", 2),
-    ];
-    for (text, number) in &cases {
-        let body = object(alloc, text)?;
-        assert!(rt; LabelNamesBody::of(alloc, &body).err() == Some(FieldFault::WrongKind(*number)));
+    ] {
+        assert!(rt;
+            fault_of_names(alloc, text)? == Some(FieldFault::WrongKind(number)),
+            "{text}"
+        );
     }
-    let body = object(alloc, "{\"name\":1,\"end\":null}")?;
-    assert!(rt; LabelValuesBody::of(alloc, &body).err() == Some(FieldFault::WrongKind(0)));
-    let body = object(alloc, "{\"end\":null}")?;
-    assert!(rt; LabelValuesBody::of(alloc, &body).err() == Some(FieldFault::WrongKind(3)));
-    let body = object(alloc, "{\"labelNames\":{}}")?;
-    assert!(rt; SeriesBody::of(alloc, &body).err() == Some(FieldFault::WrongKind(1)));
-    let body = object(alloc, "{\"start\":[]}")?;
-    assert!(rt; SeriesBody::of(alloc, &body).err() == Some(FieldFault::WrongKind(2)));
+    for (text, number) in [("{\"name\":1,\"end\":null}", 0), ("{\"end\":null}", 3)] {
+        assert!(rt;
+            fault_of_values(alloc, text)? == Some(FieldFault::WrongKind(number)),
+            "{text}"
+        );
+    }
+    for (text, number) in [("{\"labelNames\":{}}", 1), ("{\"start\":[]}", 2)] {
+        assert!(rt;
+            fault_of_series(alloc, text)? == Some(FieldFault::WrongKind(number)),
+            "{text}"
+        );
+    }
     Ok(())
+}
+
+fn are_labels(labels: &[(Name, Name)], expected: &[(&str, &str)]) -> bool {
+    for ((name, value), (expected_name, expected_value)) in labels.iter().zip(expected) {
+        if name.as_str() != *expected_name || value.as_str() != *expected_value {
+            return false;
+        }
+    }
+    labels.len() == expected.len()
+}
+
+fn are_series(series: &[PushedSeries<'_>], expected: &[(&[(&str, &str)], &[&str])]) -> bool {
+    for (one, (labels, raw_profiles)) in series.iter().zip(expected) {
+        if !are_labels(&one.labels, labels) || one.raw_profiles.as_slice() != *raw_profiles {
+            return false;
+        }
+    }
+    series.len() == expected.len()
+}
+
+// Whether a push has these series, each with labels and raw profiles.
+fn pushes(
+    alloc: Global,
+    text: &str,
+    expected: &[(&[(&str, &str)], &[&str])],
+) -> Result<bool, Fail> {
+    let body = object(alloc, text)?;
+    let push = PushBody::of(alloc, &body)?;
+    Ok(are_series(&push.series, expected))
 }
 
 #[test]
 fn a_push_has_series_of_labels_and_samples(rt: HostRuntime) -> Result<(), Fail> {
     let alloc = rt.alloc();
-    let body = object(
-        alloc,
+    let text =
         "{\"series\":[{\"labels\":[{\"name\":\"b\",\"value\":\"1\",\"more\":0},{\"name\":\"a\",\"value\":\"\"}],\
-         \"samples\":[{\"rawProfile\":\"AA==\"},{\"ID\":\"x\",\"rawProfile\":\"\"}]},{\"samples\":[],\"labels\":[]}]}",
-    )?;
-    let push = PushBody::of(alloc, &body)?;
-    assert!(rt; push.series.len() == 2);
-    let first = push.series.get(0).unwrap();
-    assert!(rt; first.labels.len() == 2);
-    assert!(rt;
-        first.labels.get(0).is_some_and(|(name, value)| name.as_str() == "b"
-            && value.as_str() == "1")
-    );
-    assert!(rt;
-        first.labels.get(1).is_some_and(|(name, value)| name.as_str() == "a"
-            && value.as_str() == "")
-    );
-    assert!(rt; first.raw_profiles.len() == 2);
-    assert!(rt; first.raw_profiles.get(0).copied() == Some("AA=="));
-    assert!(rt; first.raw_profiles.get(1).copied() == Some(""));
-    let second = push.series.get(1).unwrap();
-    assert!(rt; second.labels.is_empty());
-    assert!(rt; second.raw_profiles.is_empty());
-    let empty = object(alloc, "{}")?;
-    assert!(rt; PushBody::of(alloc, &empty)?.series.is_empty());
+         \"samples\":[{\"rawProfile\":\"AA==\"},{\"ID\":\"x\",\"rawProfile\":\"\"}]},{\"samples\":[],\"labels\":[]}]}";
+    let series: [(&[(&str, &str)], &[&str]); 2] = [
+        (&[("b", "1"), ("a", "")], &["AA==", ""]),
+        (&[], &[]),
+    ];
+    assert!(rt; pushes(alloc, text, &series)?);
+    assert!(rt; pushes(alloc, "{}", &[])?);
     Ok(())
+}
+
+fn fault_of_push(alloc: Global, text: &str) -> Result<Option<ShapeFault>, Fail> {
+    let body = object(alloc, text)?;
+    Ok(PushBody::of(alloc, &body).err())
 }
 
 #[test]
 fn the_first_place_of_another_shape_is_told(rt: HostRuntime) -> Result<(), Fail> {
-    let alloc = rt.alloc();
-    let cases = [
+    for (text, series, sample) in [
         ("{\"series\":null}", 0, 0),
         ("{\"series\":{}}", 0, 0),
         ("{\"series\":[[]]}", 0, 0),
@@ -178,33 +260,42 @@ fn the_first_place_of_another_shape_is_told(rt: HostRuntime) -> Result<(), Fail>
             0,
             1,
         ),
-    ];
-    for (text, series, sample) in &cases {
-        let body = object(alloc, text)?;
-        let wrong = ShapeFault::Wrong {
-            series: *series,
-            sample: *sample,
-        };
-        assert!(rt; PushBody::of(alloc, &body).err() == Some(wrong));
+    ] {
+        let wrong = ShapeFault::Wrong { series, sample };
+        assert!(rt; fault_of_push(rt.alloc(), text)? == Some(wrong), "{text}");
     }
     Ok(())
+}
+
+fn body_fault_reads(alloc: Global, fault: JsonFault, words: &str) -> Result<bool, Fail> {
+    let text = fault.to_string(alloc)?;
+    Ok(text.as_str() == words)
+}
+
+fn field_fault_reads(alloc: Global, fault: FieldFault, words: &str) -> Result<bool, Fail> {
+    let text = fault.to_string(alloc)?;
+    Ok(text.as_str() == words)
+}
+
+fn shape_fault_reads(alloc: Global, fault: ShapeFault, words: &str) -> Result<bool, Fail> {
+    let text = fault.to_string(alloc)?;
+    Ok(text.as_str() == words)
 }
 
 #[test]
 fn faults_are_told_in_words(rt: HostRuntime) -> Result<(), Fail> {
     let alloc = rt.alloc();
-    assert!(rt; JsonFault::NotObject.to_string(alloc)?.as_str() == "the body is no JSON object");
-    assert!(rt; JsonFault::Memory.to_string(alloc)?.as_str() == "out of memory");
-    assert!(rt;
-        FieldFault::WrongKind(2).to_string(alloc)?.as_str() == "field 2 is of a wrong kind"
-    );
-    assert!(rt; FieldFault::Memory.to_string(alloc)?.as_str() == "out of memory");
+    assert!(rt; body_fault_reads(alloc, JsonFault::NotObject, "the body is no JSON object")?);
+    assert!(rt; body_fault_reads(alloc, JsonFault::Memory, "out of memory")?);
+    let kind = FieldFault::WrongKind(2);
+    assert!(rt; field_fault_reads(alloc, kind, "field 2 is of a wrong kind")?);
+    assert!(rt; field_fault_reads(alloc, FieldFault::Memory, "out of memory")?);
     let wrong = ShapeFault::Wrong {
         series: 1,
         sample: 3,
     };
-    assert!(rt; wrong.to_string(alloc)?.as_str() == "another shape at series 1, sample 3");
-    assert!(rt; ShapeFault::Memory.to_string(alloc)?.as_str() == "out of memory");
+    assert!(rt; shape_fault_reads(alloc, wrong, "another shape at series 1, sample 3")?);
+    assert!(rt; shape_fault_reads(alloc, ShapeFault::Memory, "out of memory")?);
     Ok(())
 }
 

@@ -5,49 +5,70 @@ use std::test::Fail;
 
 const NOW: u64 = 1_700_000_000_000;
 
+const QUERY: &[u8] = b"name=a+b&x&name=c&name%3D=%7Bd%7D";
+
+fn count_of_parameters(alloc: Global) -> Result<usize, Fail> {
+    let parameters = read_parameters(alloc, QUERY)?;
+    Ok(parameters.len())
+}
+
+fn has_first(alloc: Global, name: &str, value: Option<&str>) -> Result<bool, Fail> {
+    let parameters = read_parameters(alloc, QUERY)?;
+    Ok(first_value(&parameters, name) == value)
+}
+
 #[test]
 fn of_a_repeated_parameter_the_first_counts(rt: HostRuntime) -> Result<(), Fail> {
-    let parameters = read_parameters(rt.alloc(), b"name=a+b&x&name=c&name%3D=%7Bd%7D")?;
-    assert_eq!(rt; parameters.len(), 4);
-    assert_eq!(rt; first_value(&parameters, "name"), Some("a b"));
-    assert_eq!(rt; first_value(&parameters, "x"), Some(""));
-    assert_eq!(rt; first_value(&parameters, "name="), Some("{d}"));
-    assert_eq!(rt; first_value(&parameters, "nam"), None);
+    let alloc = rt.alloc();
+    assert_eq!(rt; count_of_parameters(alloc)?, 4);
+    for (name, value) in [
+        ("name", Some("a b")),
+        ("x", Some("")),
+        ("name=", Some("{d}")),
+        ("nam", None),
+    ] {
+        assert!(rt; has_first(alloc, name, value)?, "{name}");
+    }
     Ok(())
 }
 
 #[test]
 fn the_count_of_digits_tells_the_unit_of_a_time(rt: HostRuntime) {
-    assert_eq!(rt; read_time("1700000000", NOW), Some(1_700_000_000_000));
-    assert_eq!(rt; read_time("0", NOW), Some(0));
-    assert_eq!(rt; read_time("9999999999", NOW), Some(9_999_999_999_000));
-    assert_eq!(rt; read_time("17000000001", NOW), Some(17_000_000_001));
-    assert_eq!(rt; read_time("1700000000001", NOW), Some(1_700_000_000_001));
-    assert_eq!(rt; read_time("17000000000019", NOW), Some(17_000_000_000));
-    assert_eq!(rt; read_time("1700000000001999", NOW), Some(1_700_000_000_001));
-    assert_eq!(rt; read_time("17000000000019999", NOW), Some(17_000_000_000));
-    assert_eq!(rt;
-        read_time("1700000000001999999", NOW),
-        Some(1_700_000_000_001)
-    );
-    assert_eq!(rt; read_time("17000000000019999999", NOW), None);
+    for (text, time) in [
+        ("1700000000", Some(1_700_000_000_000)),
+        ("0", Some(0)),
+        ("9999999999", Some(9_999_999_999_000)),
+        ("17000000001", Some(17_000_000_001)),
+        ("1700000000001", Some(1_700_000_000_001)),
+        ("17000000000019", Some(17_000_000_000)),
+        ("1700000000001999", Some(1_700_000_000_001)),
+        ("17000000000019999", Some(17_000_000_000)),
+        ("1700000000001999999", Some(1_700_000_000_001)),
+        ("17000000000019999999", None),
+    ] {
+        assert_eq!(rt; read_time(text, NOW), time, "{text}");
+    }
 }
 
 #[test]
 fn a_time_is_told_from_now(rt: HostRuntime) {
-    assert_eq!(rt; read_time("now", NOW), Some(NOW));
-    assert_eq!(rt; read_time("now-1s", NOW), Some(NOW - 1_000));
-    assert_eq!(rt; read_time("now-02m", NOW), Some(NOW - 120_000));
-    assert_eq!(rt; read_time("now-1h", NOW), Some(NOW - 3_600_000));
-    assert_eq!(rt; read_time("now-7d", NOW), Some(NOW - 604_800_000));
-    assert_eq!(rt; read_time("now-999999999d", NOW), Some(0));
-    assert_eq!(rt; read_time("now-1000000000s", NOW), None);
-    assert_eq!(rt; read_time("now-s", NOW), None);
-    assert_eq!(rt; read_time("now-1w", NOW), None);
-    assert_eq!(rt; read_time("now-", NOW), None);
-    assert_eq!(rt; read_time("now+1s", NOW), None);
-    assert_eq!(rt; read_time("", NOW), None);
-    assert_eq!(rt; read_time("-1", NOW), None);
+    for (text, time) in [
+        ("now", Some(NOW)),
+        ("now-1s", Some(NOW - 1_000)),
+        ("now-02m", Some(NOW - 120_000)),
+        ("now-1h", Some(NOW - 3_600_000)),
+        ("now-7d", Some(NOW - 604_800_000)),
+        ("now-999999999d", Some(0)),
+        ("now-1000000000s", None),
+        ("now-s", None),
+        ("now-1w", None),
+        ("now-", None),
+        ("now+1s", None),
+        ("", None),
+        ("-1", None),
+    ] {
+        assert_eq!(rt; read_time(text, NOW), time, "{text}");
+    }
 }
 
 #[test]
@@ -63,89 +84,88 @@ fn a_number_has_digits_alone_and_so_many(rt: HostRuntime) {
     assert_eq!(rt; read_digits("7", 0), None);
 }
 
-// A read name as a text of its own, in which each part ends with a bar; or the place where it breaks.
-fn shown(alloc: Global, text: &str) -> Result<String, Fail> {
-    let mut shown = String::new(alloc);
+fn is_read_as(alloc: Global, text: &str, service: &str, pairs: &[(&str, &str)]) -> bool {
     match read_series_name(alloc, text) {
-        Ok(name) => {
-            shown.push_str(name.service)?;
-            shown.push('|')?;
-            for (key, value) in name.pairs.iter() {
-                shown.push_str(key)?;
-                shown.push('|')?;
-                shown.push_str(value)?;
-                shown.push('|')?;
-            }
-        }
-        Err(fault) => shown.push_str(fault.to_string(alloc)?.as_str())?,
+        Ok(name) => name.service == service && name.pairs.as_slice() == pairs,
+        Err(_) => false,
     }
-    Ok(shown)
 }
 
 #[test]
-fn a_name_is_a_service_and_its_pairs(rt: HostRuntime) -> Result<(), Fail> {
-    let alloc = rt.alloc();
-    assert_eq!(rt; shown(alloc, "app")?.as_str(), "app|");
-    assert_eq!(rt; shown(alloc, "a,b}=c")?.as_str(), "a,b}=c|");
-    assert_eq!(rt; shown(alloc, "app{}")?.as_str(), "app|");
-    assert_eq!(rt;
-        shown(alloc, "app{env=prod,pod=p1}")?.as_str(),
-        "app|env|prod|pod|p1|"
-    );
-    assert_eq!(rt;
-        shown(alloc, "app{=,a=b={,a=}")?.as_str(),
-        "app|||a|b={|a||"
-    );
-    Ok(())
+fn a_name_is_a_service_and_its_pairs(rt: HostRuntime) {
+    let cases: [(&str, &str, &[(&str, &str)]); 5] = [
+        ("app", "app", &[]),
+        ("a,b}=c", "a,b}=c", &[]),
+        ("app{}", "app", &[]),
+        (
+            "app{env=prod,pod=p1}",
+            "app",
+            &[("env", "prod"), ("pod", "p1")],
+        ),
+        (
+            "app{=,a=b={,a=}",
+            "app",
+            &[("", ""), ("a", "b={"), ("a", "")],
+        ),
+    ];
+    for (text, service, pairs) in cases {
+        assert!(rt; is_read_as(rt.alloc(), text, service, pairs), "{text}");
+    }
+}
+
+fn reads(alloc: Global, fault: NameFault, words: &str) -> Result<bool, Fail> {
+    let text = fault.to_string(alloc)?;
+    Ok(text.as_str() == words)
+}
+
+fn is_refused_with(alloc: Global, text: &str, words: &str) -> Result<bool, Fail> {
+    match read_series_name(alloc, text).err() {
+        Some(fault) => reads(alloc, fault, words),
+        None => Ok(false),
+    }
 }
 
 #[test]
 fn a_text_that_is_no_name_breaks_where_no_name_goes_on(rt: HostRuntime) -> Result<(), Fail> {
-    let alloc = rt.alloc();
-    assert_eq!(rt;
-        shown(alloc, "")?.as_str(),
-        "no name of a series: see byte 0"
-    );
-    assert_eq!(rt;
-        shown(alloc, "{a=b}")?.as_str(),
-        "no name of a series: see byte 0"
-    );
-    assert_eq!(rt;
-        shown(alloc, "app{")?.as_str(),
-        "no name of a series: see byte 4"
-    );
-    assert_eq!(rt;
-        shown(alloc, "app{a}")?.as_str(),
-        "no name of a series: see byte 5"
-    );
-    assert_eq!(rt;
-        shown(alloc, "app{a=b,}")?.as_str(),
-        "no name of a series: see byte 8"
-    );
-    assert_eq!(rt;
-        shown(alloc, "app{a=b")?.as_str(),
-        "no name of a series: see byte 7"
-    );
-    assert_eq!(rt;
-        shown(alloc, "app{a=b}c")?.as_str(),
-        "no name of a series: see byte 8"
-    );
+    for (text, words) in [
+        ("", "no name of a series: see byte 0"),
+        ("{a=b}", "no name of a series: see byte 0"),
+        ("app{", "no name of a series: see byte 4"),
+        ("app{a}", "no name of a series: see byte 5"),
+        ("app{a=b,}", "no name of a series: see byte 8"),
+        ("app{a=b", "no name of a series: see byte 7"),
+        ("app{a=b}c", "no name of a series: see byte 8"),
+    ] {
+        assert!(rt; is_refused_with(rt.alloc(), text, words)?, "{text}");
+    }
     Ok(())
+}
+
+fn letters(alloc: Global, count: usize) -> Result<String, Fail> {
+    let mut text = String::new(alloc);
+    for _ in 0..count {
+        text.push('a')?;
+    }
+    Ok(text)
+}
+
+fn takes_letters(alloc: Global, count: usize) -> Result<bool, Fail> {
+    let text = letters(alloc, count)?;
+    Ok(read_series_name(alloc, text.as_str()).is_ok())
+}
+
+// Behind so many letters one of two bytes.
+fn is_refused_behind(alloc: Global, count: usize, words: &str) -> Result<bool, Fail> {
+    let mut text = letters(alloc, count)?;
+    text.push('é')?;
+    is_refused_with(alloc, text.as_str(), words)
 }
 
 #[test]
 fn a_service_has_2048_bytes_and_no_more(rt: HostRuntime) -> Result<(), Fail> {
     let alloc = rt.alloc();
-    let mut text = String::new(alloc);
-    for _ in 0..2047 {
-        text.push('a')?;
-    }
-    assert!(rt; read_series_name(alloc, text.as_str()).is_ok());
-    // Two bytes more, the second of which crosses the bound.
-    text.push('é')?;
-    assert_eq!(rt;
-        shown(alloc, text.as_str())?.as_str(),
-        "no name of a series: see byte 2048"
-    );
+    assert!(rt; takes_letters(alloc, 2047)?);
+    // The second byte of the last letter crosses the bound.
+    assert!(rt; is_refused_behind(alloc, 2047, "no name of a series: see byte 2048")?);
     Ok(())
 }

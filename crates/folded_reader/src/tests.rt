@@ -4,19 +4,24 @@ use std::alloc::{AllocError, Global};
 use std::sync::ArcSlice;
 use std::test::Fail;
 
-// The text of what a body says.
-fn rewritten(alloc: Global, body: &str) -> Result<Vec<u8>, Fail> {
-    let sums = read_folded(alloc, body.as_bytes())?;
-    Ok(write_folded(alloc, &sums)?)
+// Whether sums are written as this text.
+fn are_written(alloc: Global, sums: &StackSums, text: &[u8]) -> Result<bool, Fail> {
+    let written = write_folded(alloc, sums)?;
+    Ok(written.as_slice() == text)
 }
 
-// A text of some bytes, over and over.
-fn repeated(alloc: Global, part: &str, times: u32) -> Result<String, AllocError> {
-    let mut text = String::new(alloc);
-    for _ in 0..times {
-        text.push_str(part)?;
-    }
-    Ok(text)
+// Whether what a body says is written as this text.
+fn says(alloc: Global, body: &str, text: &str) -> Result<bool, Fail> {
+    let sums = read_folded(alloc, body.as_bytes())?;
+    are_written(alloc, &sums, text.as_bytes())
+}
+
+fn fault_of(alloc: Global, body: &[u8]) -> Option<FoldedFault> {
+    read_folded(alloc, body).err()
+}
+
+fn fault_of_lines(alloc: Global, body: &[u8]) -> Option<FoldedFault> {
+    read_lines(alloc, body).err()
 }
 
 #[test]
@@ -51,26 +56,34 @@ fn stacks_are_read_and_written_in_order(rt: HostRuntime) -> Result<(), Fail> {
         ("a\t;b\r 1\n", "a?;b? 1\n"),
         ("läs;ö 1\n", "läs;ö 1\n"),
     ] {
-        assert_eq!(rt;
-            rewritten(alloc, body)?.as_slice(),
-            text.as_bytes(),
-            "{body}"
-        );
+        assert!(rt; says(alloc, body, text)?, "{body}");
     }
     Ok(())
 }
 
+fn is_stack_of(stack: &Stack, frames: &[&str]) -> bool {
+    for (frame, expected) in stack.frames().iter().zip(frames) {
+        if frame.as_str() != *expected {
+            return false;
+        }
+    }
+    stack.frames().len() == frames.len()
+}
+
+// Whether a body says one stack of these frames, with this value.
+fn says_one(alloc: Global, body: &[u8], frames: &[&str], count: u64) -> Result<bool, Fail> {
+    let sums = read_folded(alloc, body)?;
+    for (stack, value) in sums.iter() {
+        if !is_stack_of(stack, frames) || *value != count {
+            return Ok(false);
+        }
+    }
+    Ok(sums.len() == 1)
+}
+
 #[test]
 fn frames_stand_from_the_root(rt: HostRuntime) -> Result<(), Fail> {
-    let sums = read_folded(rt.alloc(), b"do it;x y 4")?;
-    assert_eq!(rt; sums.len(), 1);
-    for (stack, value) in sums.iter() {
-        assert_eq!(rt; *value, 4);
-        let frames = stack.frames();
-        assert_eq!(rt; frames.len(), 2);
-        assert_eq!(rt; frames[0].as_str(), "do it");
-        assert_eq!(rt; frames[1].as_str(), "x y");
-    }
+    assert!(rt; says_one(rt.alloc(), b"do it;x y 4", &["do it", "x y"], 4)?);
     Ok(())
 }
 
@@ -100,11 +113,7 @@ fn the_first_fault_is_told(rt: HostRuntime) {
         ("a 1\n;c x\nb\n", FoldedFault::BadCount(2)),
         ("a 9223372036854775807\n; 1\n", FoldedFault::EmptyFrame(2)),
     ] {
-        assert_eq!(rt;
-            read_folded(alloc, body.as_bytes()).err(),
-            Some(fault),
-            "{body}"
-        );
+        assert_eq!(rt; fault_of(alloc, body.as_bytes()), Some(fault), "{body}");
     }
 }
 
@@ -112,89 +121,117 @@ fn the_first_fault_is_told(rt: HostRuntime) {
 fn a_body_that_is_no_text_is_refused(rt: HostRuntime) {
     let alloc = rt.alloc();
     assert_eq!(rt;
-        read_folded(alloc, b"\x1f\x8b\x08").err(),
+        fault_of(alloc, b"\x1f\x8b\x08"),
         Some(FoldedFault::Compressed)
     );
     assert_eq!(rt;
-        read_lines(alloc, b"\x1f\x8b").err(),
+        fault_of_lines(alloc, b"\x1f\x8b"),
         Some(FoldedFault::Compressed)
     );
     assert_eq!(rt;
-        read_folded(alloc, b"a\nb 1\n\xff").err(),
+        fault_of(alloc, b"a\nb 1\n\xff"),
         Some(FoldedFault::NotUtf8(6))
     );
     assert_eq!(rt;
-        read_lines(alloc, b"ab\xc3").err(),
+        fault_of_lines(alloc, b"ab\xc3"),
         Some(FoldedFault::NotUtf8(2))
     );
+}
+
+// A text of parts, each of them so many times.
+fn repeated(alloc: Global, parts: &[(&str, u32)]) -> Result<String, AllocError> {
+    let mut text = String::new(alloc);
+    for (part, times) in parts {
+        for _ in 0..*times {
+            text.push_str(part)?;
+        }
+    }
+    Ok(text)
+}
+
+fn count_of_stacks(alloc: Global, parts: &[(&str, u32)]) -> Result<usize, Fail> {
+    let body = repeated(alloc, parts)?;
+    let sums = read_folded(alloc, body.as_bytes())?;
+    Ok(sums.len())
+}
+
+fn fault_of_repeated(alloc: Global, parts: &[(&str, u32)]) -> Result<Option<FoldedFault>, Fail> {
+    let body = repeated(alloc, parts)?;
+    Ok(fault_of(alloc, body.as_bytes()))
 }
 
 #[test]
 fn a_stack_may_be_deep_and_a_frame_long_up_to_a_limit(rt: HostRuntime) -> Result<(), Fail> {
     let alloc = rt.alloc();
-    let deep = repeated(alloc, "a;", 1023)?;
-    let long = repeated(alloc, "b", 65535)?;
-    let mut body = format!(in alloc; "{deep}c 1\n{long} 2")?;
-    assert_eq!(rt; read_folded(alloc, body.as_bytes())?.len(), 2);
-    body.push_str("\na;b")?;
+    let (deep, long) = (("a;", 1023), ("b", 65535));
     assert_eq!(rt;
-        read_folded(alloc, body.as_bytes()).err(),
-        Some(FoldedFault::NoCount(3))
+        count_of_stacks(alloc, &[deep, ("c 1\n", 1), long, (" 2", 1)])?,
+        2
     );
-
-    let body = format!(in alloc; "{deep}c;d 1")?;
-    assert_eq!(rt;
-        read_folded(alloc, body.as_bytes()).err(),
-        Some(FoldedFault::TooDeep(1))
-    );
-    let body = format!(in alloc; "x 1\na;{long}b 1")?;
-    assert_eq!(rt;
-        read_folded(alloc, body.as_bytes()).err(),
-        Some(FoldedFault::LongFrame(2))
-    );
-    // An empty frame comes before too many, and too many before a long one.
-    let body = format!(in alloc; "{deep}c;; 1")?;
-    assert_eq!(rt;
-        read_folded(alloc, body.as_bytes()).err(),
-        Some(FoldedFault::EmptyFrame(1))
-    );
-    let body = format!(in alloc; "{long}b;{deep}c;d 1")?;
-    assert_eq!(rt;
-        read_folded(alloc, body.as_bytes()).err(),
-        Some(FoldedFault::TooDeep(1))
-    );
+    let cases: [(&[(&str, u32)], FoldedFault); 5] = [
+        (
+            &[deep, ("c 1\n", 1), long, (" 2\na;b", 1)],
+            FoldedFault::NoCount(3),
+        ),
+        (&[deep, ("c;d 1", 1)], FoldedFault::TooDeep(1)),
+        (
+            &[("x 1\na;", 1), long, ("b 1", 1)],
+            FoldedFault::LongFrame(2),
+        ),
+        // An empty frame comes before too many, and too many before a long one.
+        (&[deep, ("c;; 1", 1)], FoldedFault::EmptyFrame(1)),
+        (
+            &[long, ("b;", 1), deep, ("c;d 1", 1)],
+            FoldedFault::TooDeep(1),
+        ),
+    ];
+    for (parts, fault) in cases {
+        assert_eq!(rt; fault_of_repeated(alloc, parts)?, Some(fault));
+    }
     Ok(())
+}
+
+fn lines_say(alloc: Global, body: &[u8], text: &[u8]) -> Result<bool, Fail> {
+    let sums = read_lines(alloc, body)?;
+    are_written(alloc, &sums, text)
 }
 
 #[test]
 fn whole_lines_count_once_each(rt: HostRuntime) -> Result<(), Fail> {
     let alloc = rt.alloc();
-    let sums = read_lines(alloc, b"a;b\nc d 4\n\na;b")?;
+    assert!(rt; lines_say(alloc, b"a;b\nc d 4\n\na;b", b"a;b 2\nc d 4 1\n")?);
     assert_eq!(rt;
-        write_folded(alloc, &sums)?.as_slice(),
-        b"a;b 2\nc d 4 1\n".as_slice()
-    );
-    assert_eq!(rt;
-        read_lines(alloc, b"a\n\nb;;c").err(),
+        fault_of_lines(alloc, b"a\n\nb;;c"),
         Some(FoldedFault::EmptyFrame(3))
     );
     Ok(())
 }
 
+fn stack(alloc: Global, frames: &[&str]) -> Result<Stack, Fail> {
+    let mut names = Vec::new(alloc);
+    for frame in frames {
+        names.push(Name::from_text(alloc, frame)?)?;
+    }
+    Ok(Stack::from_frames(ArcSlice::from_vec(names)?)?)
+}
+
+fn is_written_as(alloc: Global, frames: &[&str], value: u64, text: &[u8]) -> Result<bool, Fail> {
+    let stack = stack(alloc, frames)?;
+    let mut sums = StackSums::new(alloc);
+    sums.add(stack, value)?;
+    are_written(alloc, &sums, text)
+}
+
 #[test]
 fn separators_and_control_bytes_in_frames_are_replaced(rt: HostRuntime) -> Result<(), Fail> {
-    let alloc = rt.alloc();
-    let mut sums = StackSums::new(alloc);
-    let mut frames = Vec::new(alloc);
-    frames.push(Name::from_text(alloc, "a;b\x01")?)?;
-    frames.push(Name::from_text(alloc, "c\nd \x1f\x20")?)?;
-    let stack = Stack::from_frames(ArcSlice::from_vec(frames)?)?;
-    sums.add(stack, 3)?;
-    assert_eq!(rt;
-        write_folded(alloc, &sums)?.as_slice(),
-        b"a:b?;c?d ?  3\n".as_slice()
-    );
+    let frames = ["a;b\x01", "c\nd \x1f\x20"];
+    assert!(rt; is_written_as(rt.alloc(), &frames, 3, b"a:b?;c?d ?  3\n")?);
     Ok(())
+}
+
+fn reads(alloc: Global, fault: FoldedFault, text: &str) -> Result<bool, Fail> {
+    let words = fault.to_string(alloc)?;
+    Ok(words.as_str() == text)
 }
 
 #[test]
@@ -253,7 +290,7 @@ fn faults_have_codes_places_and_texts(rt: HostRuntime) -> Result<(), Fail> {
     ] {
         assert_eq!(rt; fault.code(), code);
         assert_eq!(rt; fault.place(), place);
-        assert_eq!(rt; fault.to_string(alloc)?.as_str(), text);
+        assert!(rt; reads(alloc, fault, text)?, "{text}");
     }
     Ok(())
 }

@@ -1,6 +1,6 @@
 // What no clause says: that each call succeeds with ample memory, and the texts of the faults.
 use crate::*;
-use std::alloc::{AllocError, Global};
+use std::alloc::Global;
 use std::cmp::Ordering;
 use std::sync::ArcSlice;
 use std::test::Fail;

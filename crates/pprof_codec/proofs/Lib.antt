@@ -15,3 +15,4 @@ pub mod OrderLemmas
 pub mod RunLemmas
 pub mod BuildLemmas
 pub mod ProfileLemmas
+pub mod AnswerLemmas

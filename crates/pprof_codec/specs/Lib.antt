@@ -6,3 +6,4 @@ pub mod Checks
 pub mod Read
 pub mod LocationFrames
 pub mod Tables
+pub mod Laws

@@ -7,6 +7,7 @@ mod fault;
 mod functions;
 mod ids;
 mod judged;
+mod laws;
 mod locations;
 mod reader;
 mod room;
@@ -21,4 +22,5 @@ mod totals;
 
 pub use base::Base;
 pub use fault::{Member, PprofFault};
+pub use laws::one_answer;
 pub use reader::read_pprof;

@@ -6,3 +6,4 @@ pub mod PackedLemmas
 pub mod ContentLemmas
 pub mod KeptLemmas
 pub mod PackedLaw
+pub mod ReadingLaw

@@ -18,7 +18,7 @@ mod runs;
 mod sample;
 
 pub use fault::MessageFault;
-pub use laws::packed_numbers_have_one_reading;
+pub use laws::{one_reading, packed_numbers_have_one_reading};
 pub use lists::{Function, Label, LocationRef, SampleRef, ValueType};
 pub use message::PprofMessage;
 pub use reader::read_message;

@@ -1,2 +1,5 @@
 pub mod BodyLemmas
 pub mod IngestLemmas
+pub mod LabelAnswers
+pub mod FormAnswers
+pub mod AnswerLemmas

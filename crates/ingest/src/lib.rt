@@ -7,6 +7,7 @@
 mod body;
 mod fault;
 mod form;
+mod laws;
 mod parameters;
 mod reader;
 mod series;
@@ -14,5 +15,6 @@ mod series;
 mod tests;
 
 pub use fault::IngestFault;
+pub use laws::one_answer;
 pub use reader::{MAX_WEIGHT, read_ingest};
 pub use series::{own_labels, type_name};

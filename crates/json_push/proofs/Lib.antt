@@ -1,2 +1,5 @@
 pub mod LabelLemmas
 pub mod PushLemmas
+pub mod SampleAnswers
+pub mod SeriesAnswers
+pub mod AnswerLemmas

@@ -6,6 +6,7 @@
 
 mod fault;
 mod gathered;
+mod laws;
 mod reader;
 mod samples;
 mod series;
@@ -13,4 +14,5 @@ mod series;
 mod tests;
 
 pub use fault::PushFault;
+pub use laws::one_answer;
 pub use reader::read_push;

@@ -1,5 +1,5 @@
 -- A link as contracts see it, and what each of its calls does to it.
-use Rattle.std.specs.Prelude.{◌≡◌, ℕ, ◌+◌, ◌-◌, ◌^◌, ◌<◌, ◌≤◌, ◌↔◌, min, List, [], ◌++◌, take, Option, Some, None, Result, Ok, Err, OnErr}
+use Rattle.std.specs.Prelude.{◌≡◌, ℕ, ◌+◌, ◌-◌, ◌^◌, ◌<◌, ◌≤◌, ◌↔◌, min, List, [], ◌++◌, take, Option, Some, None, Result, Ok, Err, OnErr, OnOk, Bool}
 use Rattle.link_trait.specs.declared.link.Failed.{Failed}
 
 -- what a link tells: the bytes taken and given, the input still to come, and the moment that it always answers
@@ -32,6 +32,13 @@ pub record Gave (piece : List ℕ) (before now : Told) : Type 0 where
   pub to_come : now.to_come ≡ before.to_come
   pub moment : now.moment ≡ before.moment
 
+-- from one state to a later one these bytes went off the front of the input, and those were given; the moment is the same
+pub record Passed (took gave : List ℕ) (before now : Told) : Type 0 where
+  pub taken : now.taken ≡ before.taken ++ took
+  pub to_come : before.to_come ≡ took ++ now.to_come
+  pub given : now.given ≡ before.given ++ gave
+  pub moment : now.moment ≡ before.moment
+
 -- A read takes the bytes that it puts to the front of the room, and none for a room that isn't empty
 -- exactly where none is to come. One that fails changes nothing.
 abbrev pub ReadStep : Result ℕ Failed → ℕ → List ℕ → Told → Told → Type 0
@@ -48,10 +55,11 @@ WriteStep (Err e) from before now = Stays before now
 abbrev pub Rose : ℕ → ℕ → Type 0
 Rose before now = min (before + 1) (2 ^ 64 - 1) ≤ now
 
--- a count doesn't fall, and an error comes only where it rose
+-- a count doesn't fall, an error comes only where it rose, and a call that succeeds leaves it
 pub record HasCause {T E : Type 0} (before now : ℕ) (result : Result T E) : Type 0 where
   pub later : before ≤ now
   pub failed : OnErr result (Rose before now)
+  pub quiet : OnOk result (now ≡ before)
 
 -- a link in memory, by what it tells and what it counts
 pub record MemoryView : Type 0 where
@@ -64,3 +72,9 @@ pub record MemoryView : Type 0 where
   pub calls : ℕ
   pub failed : ℕ
   pub refused : ℕ
+  -- whether it wasn't closed yet
+  pub «open» : Bool
+
+-- how often a call of it has failed
+abbrev pub faults_of : MemoryView → ℕ
+faults_of link = min (link.failed + link.refused) (2 ^ 64 - 1)

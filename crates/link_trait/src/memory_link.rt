@@ -1,5 +1,6 @@
 //! A link over memory, which tells all that it does.
-ghost use Rattle.std.specs.Prelude.{◌≡◌, ◌+◌, ◌-◌, ◌^◌, ◌≤◌, ◌<◌, [], min, length, OnOk, OnErr};
+ghost use Rattle.std.specs.Prelude.{◌≡◌, ◌+◌, ◌-◌, ◌^◌, ◌≤◌, ◌<◌, ◌↔◌, [], min, length, true, Contains, IfOk, IsErr, OnOk, OnErr};
+ghost use Rattle.link_trait.specs.Link.{Goes, ReadStep, WriteStep, HasCause, faults_of};
 
 use crate::link::{Failed, LAST_MOMENT, Link};
 use std::alloc::Global;
@@ -8,6 +9,7 @@ use std::marker::Model;
 /// A connection whose input stands in memory and whose output is kept.
 #[derive(Drop)]
 pub struct MemoryLink {
+    open: bool,
     input: Vec<u8>,
     at: usize,
     cuts: Vec<usize>,
@@ -37,6 +39,7 @@ impl Model for MemoryLink {
       calls = a.calls;
       failed = a.failed;
       refused = a.refused;
+      «open» = a.open;
     } };
 
     ghost invariant = { λ a. (a.at ≤ length a.input.items) × (a.moment ≤ 253402300799999) };
@@ -60,8 +63,10 @@ impl MemoryLink {
         ensures moment { result.told.moment ≡ now }
         ensures script { (result.cuts ≡ cuts.items) × (result.failing ≡ failing.items) }
         ensures counts { (result.calls ≡ 0) × (result.failed ≡ 0) × (result.refused ≡ 0) }
+        ensures open { result.open ≡ true }
     {
         MemoryLink {
+            open: true,
             input,
             at: 0,
             cuts,
@@ -93,8 +98,10 @@ impl MemoryLink {
         ensures told { self.new.told ≡ self.old.told }
         ensures script { (self.new.cuts ≡ self.old.cuts)
             × (self.new.failing ≡ self.old.failing) }
-        ensures refused { self.new.refused ≡ self.old.refused }
+        ensures open { self.new.open ≡ self.old.open }
         ensures calls { self.new.calls ≡ min (self.old.calls + 1) (2 ^ 64 - 1) }
+        ensures fails { IsErr result ↔ Contains self.old.failing self.old.calls }
+        ensures refused { self.new.refused ≡ self.old.refused }
         ensures ok { OnOk result (self.new.failed ≡ self.old.failed) }
         ensures err { OnErr result
             (self.new.failed ≡ min (self.old.failed + 1) (2 ^ 64 - 1)) }
@@ -126,13 +133,31 @@ fn piece_end(at: usize, length: usize, cuts: &[usize]) -> usize
 }
 
 impl Link for MemoryLink {
-    ghost use Rattle.std.specs.Prelude.{◌+◌, ◌-◌, ◌^◌, min, Some};
+    ghost use Rattle.std.specs.Prelude.{Some};
+    ghost use Rattle.link_trait.specs.Link.{faults_of};
 
     ghost told = { λ link. Some link.told };
 
-    ghost faults = { λ link. min (link.failed + link.refused) (2 ^ 64 - 1) };
+    ghost faults = { faults_of };
 
-    fn read(&mut self, into: &mut [u8]) -> Result<usize, Failed> {
+    ghost is_open = { λ link. link.open };
+
+    fn read(&mut self, into: &mut [u8]) -> Result<usize, Failed>
+        requires open { self.old.open ≡ true }
+        ensures open { self.new.open ≡ true }
+        ensures bound { IfOk result (λ count. count ≤ length into.old) }
+        ensures told { Goes (ReadStep result (length into.old) into.new)
+            (Some self.old.told) (Some self.new.told) }
+        ensures cause { HasCause (faults_of self.old) (faults_of self.new) result }
+        ensures script { (self.new.cuts ≡ self.old.cuts)
+            × (self.new.failing ≡ self.old.failing) }
+        ensures calls { self.new.calls ≡ min (self.old.calls + 1) (2 ^ 64 - 1) }
+        ensures fails { IsErr result ↔ Contains self.old.failing self.old.calls }
+        ensures ok { OnOk result ((self.new.failed ≡ self.old.failed)
+            × (self.new.refused ≡ self.old.refused)) }
+        ensures err { OnErr result ((self.new.failed ≡ min (self.old.failed + 1) (2 ^ 64 - 1))
+            × (self.new.refused ≡ self.old.refused)) }
+    {
         self.begin()?;
         let end = piece_end(self.at, self.input.len(), &self.cuts);
         let count = into.len().min(end - self.at);
@@ -141,7 +166,27 @@ impl Link for MemoryLink {
         Ok(count)
     }
 
-    fn write(&mut self, from: &[u8]) -> Result<usize, Failed> {
+    /// It fails where its number does, or else where memory was refused.
+    fn write(&mut self, from: &[u8]) -> Result<usize, Failed>
+        requires open { self.old.open ≡ true }
+        ensures open { self.new.open ≡ true }
+        ensures bound { IfOk result (λ count. count ≤ length from.now) }
+        ensures moves { IfOk result (λ count. 0 < length from.now → 0 < count) }
+        ensures told { Goes (WriteStep result from.now) (Some self.old.told) (Some self.new.told) }
+        ensures cause { HasCause (faults_of self.old) (faults_of self.new) result }
+        ensures script { (self.new.cuts ≡ self.old.cuts)
+            × (self.new.failing ≡ self.old.failing) }
+        ensures calls { self.new.calls ≡ min (self.old.calls + 1) (2 ^ 64 - 1) }
+        ensures fails { Contains self.old.failing self.old.calls → IsErr result }
+        ensures ok { OnOk result ((self.new.failed ≡ self.old.failed)
+            × (self.new.refused ≡ self.old.refused)) }
+        ensures named { Contains self.old.failing self.old.calls
+            → (self.new.failed ≡ min (self.old.failed + 1) (2 ^ 64 - 1))
+            × (self.new.refused ≡ self.old.refused) }
+        ensures refused { OnErr result (¬ Contains self.old.failing self.old.calls
+            → (self.new.refused ≡ min (self.old.refused + 1) (2 ^ 64 - 1))
+            × (self.new.failed ≡ self.old.failed)) }
+    {
         self.begin()?;
         match self.output.extend_from_slice(from) {
             Ok(()) => Ok(from.len()),
@@ -156,7 +201,9 @@ impl Link for MemoryLink {
         self.moment
     }
 
-    fn end(&mut self) {}
+    fn end(&mut self) {
+        self.open = false;
+    }
 
     fn faults(&self) -> u64 {
         self.failed.saturating_add(self.refused)

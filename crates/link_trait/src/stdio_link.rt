@@ -1,5 +1,5 @@
 //! The real standard streams and clock as a link. It tells nothing.
-ghost use Rattle.std.specs.Prelude.{◌≤◌, IfSome};
+ghost use Rattle.std.specs.Prelude.{◌≡◌, ◌≤◌, true, IfSome};
 ghost use Rattle.link_trait.specs.Link.{Rose};
 
 use crate::link::{Failed, LAST_MOMENT, Link};
@@ -9,6 +9,7 @@ use std::time::{Clock, SystemTime, UNIX_EPOCH};
 /// Standard input and output, with no buffer of our own, and the system's clock.
 #[derive(Drop)]
 pub struct StdioLink<R: Input + Print + Clock + Drop> {
+    open: bool,
     rt: R,
     input: R::Reader,
     moment: u64,
@@ -17,9 +18,12 @@ pub struct StdioLink<R: Input + Print + Clock + Drop> {
 }
 
 impl<R: Input + Print + Clock + Drop> StdioLink<R> {
-    pub fn new(rt: R) -> StdioLink<R> {
+    pub fn new(rt: R) -> StdioLink<R>
+        ensures open { ⟦<StdioLink<R> as Link>⟧.is_open result ≡ true }
+    {
         let input = rt.reader();
         StdioLink {
+            open: true,
             rt,
             input,
             moment: 0,
@@ -30,6 +34,7 @@ impl<R: Input + Print + Clock + Drop> StdioLink<R> {
     fn fail(&mut self) -> Failed
         ensures later { self.old.faults ≤ self.new.faults }
         ensures rose { Rose self.old.faults self.new.faults }
+        ensures open { self.new.open ≡ self.old.open }
     {
         self.faults = self.faults.saturating_add(1);
         Failed
@@ -57,6 +62,8 @@ impl<R: Input + Print + Clock + Drop> Link for StdioLink<R> {
 
     ghost faults = { λ link. link.faults };
 
+    ghost is_open = { λ link. link.open };
+
     fn read(&mut self, into: &mut [u8]) -> Result<usize, Failed> {
         match self.input.read(into) {
             Ok(count) => Ok(count),
@@ -80,7 +87,9 @@ impl<R: Input + Print + Clock + Drop> Link for StdioLink<R> {
         self.moment
     }
 
-    fn end(&mut self) {}
+    fn end(&mut self) {
+        self.open = false;
+    }
 
     fn faults(&self) -> u64 {
         self.faults

@@ -1,17 +1,19 @@
 -- A connection's bytes have one ending, but for the faults that may stand together.
-use Rattle.std.proofs.Common.{◌≡◌, ◌≢◌, ℕ, ◌+◌, List, [], ◌∷◌, ◌++◌, refl, sym, subst, ap, ◌∙◌, append_assoc, arith, Err, inl, inr, ⊎_elim, true}
+use Rattle.std.proofs.Common.{◌≡◌, ◌≢◌, ℕ, List, [], ◌∷◌, ◌++◌, refl, sym, subst, ap, ◌∙◌, append_assoc, arith, Err, inl, inr, true}
 use Rattle.std.specs.List.{All}
 use Rattle.std.proofs.lemmas.List.Elements.{All-head}
+use Rattle.std.proofs.lemmas.Bool.{true≢false}
 use Rattle.httparse.specs.Ascii.{space}
 use Rattle.httparse.specs.Grammar.{EndsInTarget, MayBecomeRequest, NeverHasRequest, print_blank, is_token_byte}
 use Rattle.http_session.specs.Heads.{IsHeadTooLarge, IsUnfinished, after_lines, headers_of}
-use Rattle.http_session.specs.Framing.{body_length_of}
-use Rattle.http_session.specs.Takes.{HasBadLength, IsBetween, IsInside, IsBad, Ending, done, closing, bad, EndsAs, TakesFrom}
+use Rattle.http_session.specs.Framing.{framing_of}
+use Rattle.http_session.specs.Asked.{Asked}
+use Rattle.http_session.specs.Takes.{HasBadLength, IsBetween, IsInside, IsBad, Ending, done, closing, bad, EndsAs}
 use Rattle.http_session.specs.TakesLaws.{MayStandTogether, Agree, EndingsAgree}
 use Rattle.http_session.specs.declared.bad_request.BadRequest.{BadRequest}
 use Rattle.http_session.specs.declared.bad_request.BadRequest.TheVariants.{Malformed, HeadTooLarge, BodyTooLarge, Chunked, CutOff}
 use Rattle.http_session.proofs.NewlineLemmas.{after_blank, token_no_line, first_of}
-use Rattle.http_session.proofs.TakesLemmas.{head_is_one, ok_is_no_err, no_head, never, no_end, whole_is_one, close_is_one}
+use Rattle.http_session.proofs.TakesLemmas.{head_is_one, ok_is_no_err, no_head, never, same_requests}
 
 -- a target is behind a method, which is no CR or LF
 target_is_text : (bytes : List ℕ) → EndsInTarget bytes → after_lines bytes ≢ []
@@ -47,13 +49,13 @@ between_is_good bytes HeadTooLarge (none, open_) large = unfinished_is_small byt
 between_is_good bytes BodyTooLarge (none, open_) wrong = unfinished_is_no_head bytes BodyTooLarge open_ wrong
 between_is_good bytes Chunked (none, open_) wrong = unfinished_is_no_head bytes Chunked open_ wrong
 between_is_good bytes CutOff (none, open_) (inl (text, other)) = text none
-between_is_good bytes CutOff (none, open_) (inr (head, rest, size, begins, sized, short)) = open_.none head rest begins.reads
+between_is_good bytes CutOff (none, open_) (inr (head, rest, framing, begins, framed, short)) = open_.none head rest begins.reads
 
 -- headers give one reason
 one_reason : (bytes : List ℕ) (e f : BadRequest) → HasBadLength bytes e → HasBadLength bytes f → e ≡ f
 one_reason bytes e f (head, rest, begins, wrong) (head', rest', begins', wrong') =
     let one = head_is_one bytes head head' rest rest' begins begins' in
-    let other : body_length_of (headers_of head) ≡ Err f = ap (λ h. body_length_of (headers_of h)) one.0 ∙ wrong' in
+    let other : framing_of (headers_of head) ≡ Err f = ap (λ h. framing_of (headers_of h)) one.0 ∙ wrong' in
     let same : Err e ≡ Err f = sym wrong ∙ other in
     cc
 
@@ -62,13 +64,13 @@ small_head bytes e (head, rest, begins, wrong) large = no_head bytes head rest b
 
 inside_is_small : (bytes : List ℕ) → IsInside bytes → IsHeadTooLarge bytes → ⊥
 inside_is_small bytes (inl (text, open_)) large = unfinished_is_small bytes open_ large
-inside_is_small bytes (inr (head, rest, size, begins, sized, short)) large = no_head bytes head rest begins large
+inside_is_small bytes (inr (head, rest, framing, begins, framed, short)) large = no_head bytes head rest begins large
 
 inside_has_length : (bytes : List ℕ) (e : BadRequest) → IsInside bytes → HasBadLength bytes e → ⊥
 inside_has_length bytes e (inl (text, open_)) wrong = unfinished_is_no_head bytes e open_ wrong
-inside_has_length bytes e (inr (head, rest, size, begins, sized, short)) (head', rest', begins', wrong) =
+inside_has_length bytes e (inr (head, rest, framing, begins, framed, short)) (head', rest', begins', wrong) =
     let one = head_is_one bytes head head' rest rest' begins begins' in
-    ok_is_no_err (body_length_of (headers_of head)) size e sized (ap (λ h. body_length_of (headers_of h)) one.0 ∙ wrong)
+    ok_is_no_err (framing_of (headers_of head)) framing e framed (ap (λ h. framing_of (headers_of h)) one.0 ∙ wrong)
 
 -- a refused head says nothing of a body
 refused_says_nothing : (bytes : List ℕ) (e : BadRequest) → NeverHasRequest bytes → HasBadLength bytes e → ⊥
@@ -105,37 +107,21 @@ faults_agree bytes CutOff BodyTooLarge a b = absurd (inside_has_length bytes Bod
 faults_agree bytes CutOff Chunked a b = absurd (inside_has_length bytes Chunked a b)
 faults_agree bytes CutOff CutOff a b = refl
 
--- bytes that begin with no further request
-ends_agree : (bytes : List ℕ) (ending last : Ending) → (ending ≢ closing) × EndsAs bytes ending → (last ≢ closing) × EndsAs bytes last → Agree ending last
-ends_agree bytes done done a b = tt
-ends_agree bytes done closing a b = absurd (b.0 refl)
-ends_agree bytes done (bad f) a b = between_is_good bytes f a.1 b.1
-ends_agree bytes closing last a b = absurd (a.0 refl)
-ends_agree bytes (bad e) done a b = between_is_good bytes e b.1 a.1
-ends_agree bytes (bad e) closing a b = absurd (b.0 refl)
-ends_agree bytes (bad e) (bad f) a b = faults_agree bytes e f a.1 b.1
-
-both_closing : (one other : Ending) → one ≡ closing → other ≡ closing → Agree one other
-both_closing closing closing a b = tt
-both_closing done other a b = absurd (cc)
-both_closing (bad e) other a b = absurd (cc)
-both_closing closing done a b = absurd (cc)
-both_closing closing (bad f) a b = absurd (cc)
+-- one rest behind one list of requests
+ends_agree : (requests : List Asked) (rest : List ℕ) (ending last : Ending) → EndsAs requests rest ending → EndsAs requests rest last → Agree ending last
+ends_agree requests rest done done a b = tt
+ends_agree requests rest done closing a b = absurd (true≢false (sym b ∙ a.0))
+ends_agree requests rest done (bad f) a b = between_is_good rest f a.1 b.1
+ends_agree requests rest closing done a b = absurd (true≢false (sym a ∙ b.0))
+ends_agree requests rest closing closing a b = tt
+ends_agree requests rest closing (bad f) a b = absurd (true≢false (sym a ∙ b.0))
+ends_agree requests rest (bad e) done a b = between_is_good rest e b.1 a.1
+ends_agree requests rest (bad e) closing a b = absurd (true≢false (sym b ∙ a.0))
+ends_agree requests rest (bad e) (bad f) a b = faults_agree rest e f a.1 b.1
 
 pub endings_agree : EndingsAgree
-endings_agree number moment bytes [] [] ending last a b = ends_agree bytes ending last a b
-endings_agree number moment bytes [] (q ∷ others) ending last a (rest, whole, more) = absurd (no_end number moment bytes rest q ending whole a)
-endings_agree number moment bytes (q ∷ requests) [] ending last (rest, whole, more) b = absurd (no_end number moment bytes rest q last whole b)
-endings_agree number moment bytes (q ∷ requests) (r ∷ others) ending last (rest, whole, more) (left, other, again) =
-    let one = whole_is_one number moment bytes rest left q r whole other in
-    let P : List ℕ → Type 0 = λ xs. TakesFrom (number + 1) moment xs others last in
-    ⊎_elim
-    (λ closed. ⊎_elim
-    (λ shut. both_closing ending last closed.2 shut.2)
-    (λ on. absurd (close_is_one q r one.0 closed.0 on.0))
-    again)
-    (λ on. ⊎_elim
-    (λ shut. absurd (close_is_one r q (sym one.0) shut.0 on.0))
-    (λ further. endings_agree (number + 1) moment rest requests others ending last on.1 (subst P (sym one.1) further.1))
-    again)
-    more
+endings_agree number moment bytes requests others ending last (rest, are, ends) (left, again, lasts) =
+    let one = same_requests number moment bytes requests others rest left ending last are ends again lasts in
+    let P : List Asked → Type 0 = λ qs. EndsAs qs left last in
+    let Q : List ℕ → Type 0 = λ xs. EndsAs requests xs last in
+    ends_agree requests rest ending last ends (subst Q (sym one.1) (subst P (sym one.0) lasts))

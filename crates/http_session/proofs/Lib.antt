@@ -6,7 +6,9 @@ pub mod NewlineLemmas
 pub mod PartsLemmas
 pub mod ReaderLemmas
 pub mod RequestLemmas
+pub mod RequestsLemmas
 pub mod SpanLemmas
+pub mod StayLemmas
 pub mod TakesLemmas
 pub mod TargetLemmas
 pub mod NamedLemmas

@@ -1,5 +1,5 @@
 -- How long a request's body is, and whether its connection closes after it (RFC 9112, sections 6 and 9.6).
-use Rattle.std.specs.Prelude.{ℕ, ◌==◌, ◌||◌, ◌&&◌, Bool, List, [], ◌∷◌, length, nat_le, Option, Some, None, Result, Ok, Err, if◌then◌else◌, codes, nat_eq}
+use Rattle.std.specs.Prelude.{◌≡◌, ℕ, ◌<◌, ◌++◌, ◌==◌, ◌||◌, ◌&&◌, Bool, List, [], ◌∷◌, length, nat_le, Option, Some, None, Result, Ok, Err, if◌then◌else◌, codes, nat_eq}
 use Rattle.std.specs.Char.{is_ascii_digit}
 use Rattle.std.specs.Cmp.Lexicographic.{pointwise}
 use Rattle.std.specs.List.{list_all, list_any, slice_split}
@@ -30,6 +30,27 @@ length_by (Some coding) (text ∷ more) = Err Malformed
 
 abbrev pub body_length_of : List (List ℕ × List ℕ) → Result ℕ BadRequest
 body_length_of headers = length_by (first_named (codes "transfer-encoding") headers) (all_named (codes "content-length") headers)
+
+-- f of what is answered; a fault stays
+abbrev pub result_map : {A B E : Type 0} → (A → B) → Result A E → Result B E
+result_map f (Ok answer) = Ok (f answer)
+result_map f (Err fault) = Err fault
+
+-- how the bytes of a body are told from those behind it
+pub data Framing : Type 0 where
+  -- there are so many of them
+  sized : ℕ → Framing
+
+abbrev pub framing_of : List (List ℕ × List ℕ) → Result Framing BadRequest
+framing_of headers = result_map sized (body_length_of headers)
+
+-- the bytes are this body, and then the rest
+abbrev pub IsBody : Framing → List ℕ → List ℕ → List ℕ → Type 0
+IsBody (sized size) bytes body rest = (length body ≡ size) × (bytes ≡ body ++ rest)
+
+-- the bytes are the beginning of a body, and not all of it
+abbrev pub IsCutBody : Framing → List ℕ → Type 0
+IsCutBody (sized size) bytes = length bytes < size
 
 -- a member of Connection is `close`, spaces and tabs around it left out
 abbrev pub is_close : List ℕ → Bool

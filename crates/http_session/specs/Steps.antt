@@ -16,6 +16,13 @@ IsFaultOf before now (stop.Bad bad) = Unit {0}
 IsFaultOf before now (stop.LinkFault count) = Rose before now × (count ≡ now)
 IsFaultOf before now stop.Memory = Unit {0}
 
+-- and any other stop leaves the count
+abbrev pub IsQuiet : ℕ → ℕ → Stop → Type 0
+IsQuiet before now stop.End = now ≡ before
+IsQuiet before now (stop.Bad bad) = now ≡ before
+IsQuiet before now (stop.LinkFault count) = Unit {0}
+IsQuiet before now stop.Memory = now ≡ before
+
 -- Why no request was taken from the bytes that came.
 abbrev pub StopsAt : List ℕ → Told → Stop → Type 0
 StopsAt bytes now stop.End = IsEndAt bytes now

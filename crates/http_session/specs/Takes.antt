@@ -1,8 +1,8 @@
 -- The requests of a connection's bytes, one after another, and how they end.
-use Rattle.std.specs.Prelude.{◌≡◌, ◌≢◌, ℕ, ◌+◌, ◌<◌, ◌⊎◌, true, false, List, [], ◌∷◌, ◌++◌, length, Ok, Err}
+use Rattle.std.specs.Prelude.{◌≡◌, ◌≢◌, ℕ, ◌+◌, ◌⊎◌, Bool, true, false, List, [], ◌∷◌, Ok, Err}
 use Rattle.httparse.specs.Grammar.{RequestHead, NeverHasRequest}
 use Rattle.http_session.specs.Heads.{BeginsWithHead, IsHeadTooLarge, IsUnfinished, after_lines, headers_of}
-use Rattle.http_session.specs.Framing.{body_length_of}
+use Rattle.http_session.specs.Framing.{Framing, framing_of, IsBody, IsCutBody}
 use Rattle.http_session.specs.Asked.{Asked, asked_of}
 use Rattle.http_session.specs.declared.bad_request.BadRequest.{BadRequest}
 use Rattle.http_session.specs.declared.bad_request.BadRequest.TheVariants.{Malformed, HeadTooLarge, BodyTooLarge, Chunked, CutOff}
@@ -10,26 +10,26 @@ use Rattle.http_session.specs.declared.bad_request.BadRequest.TheVariants.{Malfo
 -- the bytes are this whole request, which is the one of that number on its connection, and then the rest
 abbrev pub IsWhole : ℕ → ℕ → List ℕ → Asked → List ℕ → Type 0
 IsWhole number moment bytes asked rest =
-    (head : RequestHead) × (body : List ℕ)
-    × BeginsWithHead bytes head (body ++ rest)
-    × (body_length_of (headers_of head) ≡ Ok (length body))
+    (head : RequestHead) × (framing : Framing) × (body : List ℕ) × (after : List ℕ)
+    × BeginsWithHead bytes head after
+    × (framing_of (headers_of head) ≡ Ok framing) × IsBody framing after body rest
     × (asked ≡ asked_of number moment head body)
 
--- the bytes begin with a head whose headers say no body's length, for this reason
+-- the bytes begin with a head whose headers say no body's framing, for this reason
 abbrev pub HasBadLength : List ℕ → BadRequest → Type 0
 HasBadLength bytes bad =
-    (head : RequestHead) × (rest : List ℕ) × BeginsWithHead bytes head rest × (body_length_of (headers_of head) ≡ Err bad)
+    (head : RequestHead) × (rest : List ℕ) × BeginsWithHead bytes head rest × (framing_of (headers_of head) ≡ Err bad)
 
 -- only CR and LF bytes, if any, of which no limit holds
 abbrev pub IsBetween : List ℕ → Type 0
 IsBetween bytes = (after_lines bytes ≡ []) × IsUnfinished bytes
 
--- a head that isn't finished, or a body that is shorter than its length
+-- a head that isn't finished, or a body that isn't
 abbrev pub IsInside : List ℕ → Type 0
 IsInside bytes =
     ((after_lines bytes ≢ []) × IsUnfinished bytes)
-    ⊎ ((head : RequestHead) × (rest : List ℕ) × (size : ℕ) × BeginsWithHead bytes head rest
-    × (body_length_of (headers_of head) ≡ Ok size) × (length rest < size))
+    ⊎ ((head : RequestHead) × (rest : List ℕ) × (framing : Framing) × BeginsWithHead bytes head rest
+    × (framing_of (headers_of head) ≡ Ok framing) × IsCutBody framing rest)
 
 -- Why the bytes begin with no request that is served. Cut off is what the bytes are where no more come.
 abbrev pub IsBad : List ℕ → BadRequest → Type 0
@@ -48,20 +48,34 @@ pub data Ending : Type 0 where
   -- no further request is served, for this reason
   bad : BadRequest → Ending
 
--- the bytes from a place between requests have no further request, and end so
-abbrev pub EndsAs : List ℕ → Ending → Type 0
-EndsAs bytes done = IsBetween bytes
-EndsAs bytes closing = Unit {0}
-EndsAs bytes (bad reason) = IsBad bytes reason
+-- From request `number` on the bytes are these whole requests, one after another, and then the rest. None
+-- follows one that asks for closing.
+abbrev pub AreRequests : ℕ → ℕ → List ℕ → List Asked → List ℕ → Type 0
+AreRequests number moment bytes [] rest = rest ≡ bytes
+AreRequests number moment bytes (asked ∷ more) rest =
+    (after : List ℕ) × IsWhole number moment bytes asked after × (asked.close ≡ true → more ≡ []) × AreRequests (number + 1) moment after more rest
 
--- From request `number` on the bytes are these requests, and end so. None follows one that asks for
--- closing, and only after such a one is the ending `closing`.
+-- the last of the requests asks for closing
+abbrev pub is_closed : List Asked → Bool
+is_closed [] = false
+is_closed (asked ∷ []) = asked.close
+is_closed (asked ∷ next ∷ more) = is_closed (next ∷ more)
+
+-- behind these requests the rest of the bytes ends so: after one that asks for closing it is free, else it has no
+-- further request
+abbrev pub EndsAs : List Asked → List ℕ → Ending → Type 0
+EndsAs requests rest done = (is_closed requests ≡ false) × IsBetween rest
+EndsAs requests rest closing = is_closed requests ≡ true
+EndsAs requests rest (bad reason) = (is_closed requests ≡ false) × IsBad rest reason
+
+-- from request `number` on the bytes are these requests, and end so
 abbrev pub TakesFrom : ℕ → ℕ → List ℕ → List Asked → Ending → Type 0
-TakesFrom number moment bytes [] ending = (ending ≢ closing) × EndsAs bytes ending
-TakesFrom number moment bytes (asked ∷ more) ending =
-    (rest : List ℕ) × IsWhole number moment bytes asked rest
-    × ((asked.close ≡ true) × (more ≡ []) × (ending ≡ closing)
-    ⊎ ((asked.close ≡ false) × TakesFrom (number + 1) moment rest more ending))
+TakesFrom number moment bytes requests ending =
+    (rest : List ℕ) × AreRequests number moment bytes requests rest × EndsAs requests rest ending
+
+-- an ending that is known only where no more bytes come
+abbrev pub IsAtEnd : Ending → Type 0
+IsAtEnd ending = (ending ≡ done) ⊎ (ending ≡ bad CutOff)
 
 -- the whole requests of a connection's bytes with their ending
 abbrev pub Takes : ℕ → List ℕ → List Asked → Ending → Type 0

@@ -1,13 +1,13 @@
 -- What holds of every reading of a connection's bytes.
-use Rattle.std.specs.Prelude.{◌≡◌, ℕ, List, ◌++◌}
+use Rattle.std.specs.Prelude.{◌≡◌, ℕ, List, [], ◌++◌}
 use Rattle.http_session.specs.Asked.{Asked}
 use Rattle.link_trait.specs.Link.{Told}
-use Rattle.http_session.specs.Takes.{IsWhole, Ending, done, closing, bad, TakesFrom}
+use Rattle.http_session.specs.Takes.{IsWhole, IsBetween, IsBad, IsAtEnd, Ending, done, closing, bad, TakesFrom}
 use Rattle.http_session.specs.declared.bad_request.BadRequest.{BadRequest}
 use Rattle.http_session.specs.declared.bad_request.BadRequest.TheVariants.{Malformed, HeadTooLarge, CutOff}
 use Rattle.http_session.specs.Waiting.{Waiting}
 use Rattle.http_session.specs.Answers.{AnswerStep}
-use Rattle.http_session.specs.declared.reader.NextRequest.TheVariants.{Request}
+use Rattle.http_session.specs.declared.reader.NextRequest.TheVariants.{Request, End, Bad}
 
 -- a whole request stays the same where more bytes come, which are then behind its rest
 abbrev pub WholeStays : Type 0
@@ -49,6 +49,13 @@ EndingsAgree =
     (number moment : ℕ) (bytes : List ℕ) (requests others : List Asked) (ending last : Ending)
     → TakesFrom number moment bytes requests ending → TakesFrom number moment bytes others last → Agree ending last
 
+-- So it doesn't matter how much of the bytes has come: what they take stays the same where more come, but for an
+-- ending that is known only where no more do.
+abbrev pub TakesStay : Type 0
+TakesStay =
+    (number moment : ℕ) (bytes more : List ℕ) (requests : List Asked) (ending : Ending)
+    → TakesFrom number moment bytes requests ending → (IsAtEnd ending → more ≡ []) → TakesFrom number moment (bytes ++ more) requests ending
+
 -- The request that a reader answers is the whole request of the bytes held and all of the input still to
 -- come, and what is then held and still to come is its rest, however the link cuts its input.
 abbrev pub AnsweredOfAll : Type 0
@@ -56,3 +63,14 @@ AnsweredOfAll =
     (old new : Waiting) (before now : Told) (asked : Asked)
     → AnswerStep (Request asked) old new before now
     → IsWhole new.given before.moment (old.held ++ before.to_come) asked (new.held ++ now.to_come)
+
+-- And so are the end of the input and the reason why it is no request, which are those of all of it.
+abbrev pub EndedOfAll : Type 0
+EndedOfAll =
+    (old new : Waiting) (before now : Told)
+    → AnswerStep End old new before now → IsBetween (old.held ++ before.to_come)
+
+abbrev pub RefusedOfAll : Type 0
+RefusedOfAll =
+    (old new : Waiting) (before now : Told) (reason : BadRequest)
+    → AnswerStep (Bad reason) old new before now → IsBad (old.held ++ before.to_come) reason

@@ -1,10 +1,10 @@
 //! Requests from a link, one after another.
-ghost use Rattle.std.specs.Prelude.{◌≡◌, ◌≤◌, ℕ, [], false, true, min, length, take, drop, IfOk, IfErr};
+ghost use Rattle.std.specs.Prelude.{◌≡◌, ◌≢◌, ◌≤◌, ℕ, [], false, true, min, length, take, drop, IfOk, IfErr, MatchResult};
 ghost use Rattle.httparse.specs.Grammar.{RequestHead};
 ghost use Rattle.link_trait.specs.Link.{Told, Goes, Rose};
 ghost use Rattle.http_session.specs.HeadRead.{IsHeadAt};
 ghost use Rattle.http_session.specs.Answers.{Continues, AnswerStep};
-ghost use Rattle.http_session.specs.Steps.{IsFaultOf, StopsAt, HeadStep, BodyStep, RestStep, RequestStep};
+ghost use Rattle.http_session.specs.Steps.{IsFaultOf, IsQuiet, StopsAt, HeadStep, BodyStep, RestStep, RequestStep};
 ghost use Rattle.http_session.specs.Heads.{IsUnfinished};
 ghost use Rattle.http_session.specs.Asked.{Asked};
 
@@ -89,9 +89,12 @@ impl Reader {
 
     /// The next request of the connection. After any answer but a request it answers `End`.
     pub fn next_request<L: Link>(&mut self, link: &mut L) -> NextRequest
+        requires open { L.is_open link.old ≡ true }
+        ensures open { L.is_open link.new ≡ true }
         ensures fault { (count : ℕ) → result ≡ NextRequest.LinkFault count
             → Rose (L.faults link.old) (L.faults link.new) × (count ≡ L.faults link.new) }
         ensures count { L.faults link.old ≤ L.faults link.new }
+        ensures quiet { ((count : ℕ) → result ≢ NextRequest.LinkFault count) → L.faults link.new ≡ L.faults link.old }
         ensures after_end { self.old.ended ≡ true → (result ≡ NextRequest.End)
             × (L.told link.new ≡ L.told link.old) × (L.faults link.new ≡ L.faults link.old) }
         ensures moment { (request : Asked) → result ≡ NextRequest.Request request
@@ -130,7 +133,11 @@ fn take_request<L: Link>(
     number: u32,
     link: &mut L,
 ) -> Result<Request, Stop>
+    requires open { L.is_open link.old ≡ true }
+    ensures open { L.is_open link.new ≡ true }
     ensures count { L.faults link.old ≤ L.faults link.new }
+    ensures quiet { MatchResult result (λ _. L.faults link.new ≡ L.faults link.old)
+        (IsQuiet (L.faults link.old) (L.faults link.new)) }
     ensures fault { IfErr result (IsFaultOf (L.faults link.old) (L.faults link.new)) }
     ensures moment { IfOk result (λ request. request.moment ≤ LAST_MOMENT) }
     ensures told { Goes (RequestStep number result buffer.old buffer.new)
@@ -161,7 +168,11 @@ fn take_head<L: Link>(
     headers: &mut [HeaderSpan; HEADER_LIMIT],
     link: &mut L,
 ) -> Result<RequestSpans, Stop>
+    requires open { L.is_open link.old ≡ true }
+    ensures open { L.is_open link.new ≡ true }
     ensures count { L.faults link.old ≤ L.faults link.new }
+    ensures quiet { MatchResult result (λ _. L.faults link.new ≡ L.faults link.old)
+        (IsQuiet (L.faults link.old) (L.faults link.new)) }
     ensures fault { IfErr result (IsFaultOf (L.faults link.old) (L.faults link.new)) }
     ensures head { IfOk result (λ spans. (head : RequestHead)
         × IsHeadAt buffer.new headers.new spans head) }
@@ -186,6 +197,7 @@ fn take_head<L: Link>(
 // The input ended here, before a whole head.
 fn unfinished(bytes: &[u8]) -> Stop
     ensures fault { (before : ℕ) → (now : ℕ) → IsFaultOf before now result }
+    ensures quiet { (count : ℕ) → IsQuiet count count result }
     ensures stops { (now : Told) → IsUnfinished bytes.now → now.to_come ≡ []
         → StopsAt bytes.now now result }
 {
@@ -203,7 +215,11 @@ fn take_body<L: Link>(
     size: usize,
     link: &mut L,
 ) -> Result<Vec<u8>, Stop>
+    requires open { L.is_open link.old ≡ true }
+    ensures open { L.is_open link.new ≡ true }
     ensures count { L.faults link.old ≤ L.faults link.new }
+    ensures quiet { MatchResult result (λ _. L.faults link.new ≡ L.faults link.old)
+        (IsQuiet (L.faults link.old) (L.faults link.new)) }
     ensures fault { IfErr result (IsFaultOf (L.faults link.old) (L.faults link.new)) }
     ensures told { Goes (BodyStep (λ body. body.items) size result buffer.old buffer.new)
         (L.told link.old) (L.told link.new) }
@@ -232,7 +248,11 @@ fn move_held(body: &mut [u8], buffer: &mut Buffer) -> usize
 
 // Reads from the link until the rest of a body is full.
 fn fill_rest<L: Link>(rest: &mut [u8], link: &mut L) -> Result<(), Stop>
+    requires open { L.is_open link.old ≡ true }
+    ensures open { L.is_open link.new ≡ true }
     ensures count { L.faults link.old ≤ L.faults link.new }
+    ensures quiet { MatchResult result (λ _. L.faults link.new ≡ L.faults link.old)
+        (IsQuiet (L.faults link.old) (L.faults link.new)) }
     ensures fault { IfErr result (IsFaultOf (L.faults link.old) (L.faults link.new)) }
     ensures told { Goes (RestStep result rest.new) (L.told link.old) (L.told link.new) }
 {

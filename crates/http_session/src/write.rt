@@ -1,5 +1,5 @@
 //! Writes replies to a link, without memory.
-ghost use Rattle.std.specs.Prelude.{◌≡◌, ◌+◌, ◌≤◌, ◌++◌, length, decimal, IfErr};
+ghost use Rattle.std.specs.Prelude.{◌≡◌, ◌+◌, ◌≤◌, ◌++◌, true, length, decimal, OnOk, IfErr};
 ghost use Rattle.arrayvec.specs.ArrayVec.{array_vec_len};
 ghost use Rattle.link_trait.specs.Link.{Goes, Rose};
 ghost use Rattle.http_session.specs.Reply.{line, status_line, allow_line, front_line, close_line, head_of_reply, bytes_of_reply};
@@ -21,6 +21,9 @@ pub struct LinkFault(pub u64);
 
 /// Writes a reply. After a fault a prefix of its bytes was given.
 pub fn write_reply<L: Link>(link: &mut L, reply: &Reply) -> Result<(), LinkFault>
+    requires open { L.is_open link.old ≡ true }
+    ensures open { L.is_open link.new ≡ true }
+    ensures quiet { OnOk result (L.faults link.new ≡ L.faults link.old) }
     ensures told { Goes (WriteAll result (bytes_of_reply reply.entry.now))
         (L.told link.old) (L.told link.new) }
     ensures count { L.faults link.old ≤ L.faults link.new }
@@ -40,6 +43,9 @@ pub fn write_reply<L: Link>(link: &mut L, reply: &Reply) -> Result<(), LinkFault
 
 // Writes all of the bytes.
 fn write_whole<L: Link>(link: &mut L, bytes: &[u8]) -> Result<(), LinkFault>
+    requires open { L.is_open link.old ≡ true }
+    ensures open { L.is_open link.new ≡ true }
+    ensures quiet { OnOk result (L.faults link.new ≡ L.faults link.old) }
     ensures told { Goes (WriteAll result bytes.now) (L.told link.old) (L.told link.new) }
     ensures count { L.faults link.old ≤ L.faults link.new }
     ensures fault { IfErr result (λ fault.

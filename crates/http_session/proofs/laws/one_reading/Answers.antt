@@ -1,4 +1,5 @@
 use Rattle.http_session.proofs.EndingLemmas.{endings_agree}
+use Rattle.http_session.proofs.StayLemmas.{takes_stay, ended_of_all, refused_of_all}
 use Rattle.http_session.proofs.TakesLemmas.{whole_stays, whole_is_one, requests_are_one, answered_of_all}
 use Rattle.http_session.proofs.laws.one_reading.Goals as goal
 
@@ -16,3 +17,12 @@ returns-clause-of_all c = answered_of_all
 
 pub returns-clause-endings : goal.returns-clause-endings
 returns-clause-endings c = endings_agree
+
+pub returns-clause-stay : goal.returns-clause-stay
+returns-clause-stay c = takes_stay
+
+pub returns-clause-ended : goal.returns-clause-ended
+returns-clause-ended c = ended_of_all
+
+pub returns-clause-refused : goal.returns-clause-refused
+returns-clause-refused c = refused_of_all

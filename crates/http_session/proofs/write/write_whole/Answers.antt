@@ -1,4 +1,4 @@
-use Rattle.std.proofs.Common.{◌∙◌, ap, sym, arith, take, append_assoc, List, ℕ, ◌++◌}
+use Rattle.std.proofs.Common.{◌∙◌, ap, sym, take, append_assoc, List, ℕ, ◌++◌}
 use Rattle.std.proofs.lemmas.List.{take_rest, take-append-drop}
 use Rattle.link_trait.specs.Link.{Gave}
 use Rattle.link_trait.proofs.GoesLemmas.{goes_then, gave_then}
@@ -10,7 +10,8 @@ loop-rest-preserved g c =
     let front = take c.in-Ok.count c.loop-rest.rest.now in
     let step = rw c.in-Ok.is at c.write.ensures.told in
     record {
-      count = omega (arith, c.loop-rest.invariant.count, c.write.ensures.cause.later);
+      opened = c.write.ensures.open;
+      quiet = c.in-Ok.ensures.cause.quiet ∙ c.loop-rest.invariant.quiet;
       told = (
         told.0 ++ front,
         rw (take_rest c.loop-rest.rest.now c.in-Ok.count) (told.1 ∙ ap (λ (xs : List ℕ). told.0 ++ xs) (sym (take-append-drop c.in-Ok.count c.loop-rest.rest.now)) ∙ sym (append_assoc told.0 front _)),

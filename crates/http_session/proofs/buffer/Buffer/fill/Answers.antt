@@ -20,7 +20,7 @@ returns-in-Ok-clause-told g c =
     let same : length xs ≡ length inside.bytes.items = ap length c.deref_mut.ensures.value in
     let held : take inside.end xs ≡ c.args.self.now = ap (λ (ys : List ℕ). take inside.end ys) c.deref_mut.ensures.value ∙ c.self.view_is in
     let size : length (take inside.end xs) ≡ inside.end = omega (arith, length-take inside.end xs, same, c.self.invariant.0, c.self.invariant.1) in
-    let roomy : inside.end < length xs = omega (arith, ap length held, size, c.requires, same, c.self.invariant.1) in
+    let roomy : inside.end < length xs = omega (arith, ap length held, size, c.requires.room, same, c.self.invariant.1) in
     goes_weaker (ReadStep (Ok c.in-Ok.count) (length (take (length xs - inside.end) (drop inside.end xs))) into) (FillStep (Ok c.in-Ok.count) c.args.self.now _) _ _
     (λ before now step. fill_step before now xs into c.args.self.now _ inside.end c.in-Ok.count _ roomy
     (omega (arith, length-take (length xs - inside.end) (drop inside.end xs), length-drop inside.end xs, roomy)) held becomes step)

@@ -1,4 +1,6 @@
 //! What no clause says: whole exchanges, byte by byte.
+ghost use Rattle.std.specs.Prelude.{◌≡◌, true, IfOk};
+
 use crate::{
     Allow, BadRequest, Body, LinkFault, Method, NextRequest, Reader, Reply, Request, RequestParts,
     Status, Text, write_reply,
@@ -14,7 +16,9 @@ const TWO: &[u8] =
     b"POST /ingest?name=app HTTP/1.1\r\nX-Scope-OrgID: t1\r\nContent-Length: 9\r\n\r\nmain;a 3\nGET /pyroscope/render?query=process_cpu%3Asamples%3Acount%3Acpu%3Ananoseconds%7B%7D&format=folded HTTP/1.1\r\nX-Scope-OrgID: t1\r\n\r\n";
 
 // A link that gives this input in pieces that end at the cuts.
-fn link_of(alloc: Global, input: &[u8], cuts: Vec<usize>) -> Result<MemoryLink, AllocError> {
+fn link_of(alloc: Global, input: &[u8], cuts: Vec<usize>) -> Result<MemoryLink, AllocError>
+    ensures { IfOk result (λ link. link.open ≡ true) }
+{
     let input = Vec::from_slice(alloc, input)?;
     Ok(MemoryLink::new(alloc, input, cuts, NOW, Vec::new(alloc)))
 }

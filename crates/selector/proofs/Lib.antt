@@ -4,8 +4,10 @@ pub mod RunLemmas
 pub mod TokenLemmas
 pub mod WrittenLemmas
 pub mod PatternLemmas
+pub mod BuiltLemmas
 pub mod MatcherLemmas
 pub mod InsideLemmas
 pub mod SelectorLemmas
 pub mod SeenLemmas
 pub mod MeaningLemmas
+pub mod AnswerLemmas

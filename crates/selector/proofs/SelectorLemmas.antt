@@ -1,6 +1,6 @@
 -- Whole selectors and queries: where a text breaks off, and what their faults say.
-use Rattle.std.proofs.Common.{◌≡◌, ◌≢◌, ◌⊎◌, inl, inr, ℕ, ◌<◌, ◌≤◌, ◌==◌, not, List, [], ◌∷◌, ◌++◌, length, take, get_or, refl, sym, ap, ◌∙◌, subst, arith, append_assoc, Err}
-use Rattle.std.specs.Prelude.{IsFalse}
+use Rattle.std.proofs.Common.{◌≡◌, ◌≢◌, ◌⊎◌, inl, inr, ℕ, ◌<◌, ◌≤◌, ◌==◌, Bool, not, List, [], ◌∷◌, ◌++◌, length, take, get_or, refl, sym, ap, ◌∙◌, subst, arith, append_assoc, true, Result, Ok, Err}
+use Rattle.std.specs.Prelude.{IsFalse, MatchResult}
 use Rattle.std.specs.Cmp.{first_so, second_so}
 use Rattle.std.specs.List.{list_all, position_or_len, after_first}
 use Rattle.std.proofs.lemmas.Bool.{eqb-true}
@@ -9,10 +9,13 @@ use Rattle.std.proofs.lemmas.List.Sums.{fails_before_first, passes_at_first, spl
 use Rattle.selector.specs.Matching.{Matching}
 use Rattle.selector.specs.Grammar.{is_space, IsInside, IsSelectorText, IsKind, IsQueryOf, kind_of}
 use Rattle.profile_model.specs.Kinds.{parts_of}
-use Rattle.selector.specs.Read.{IsFaultOf, IsReadQuery}
+use Rattle.selector.specs.Read.{IsFaultOf, IsReadQueryBy, IsReadSelector, AreBuilt}
+use Rattle.selector.specs.Building.{IsBuildFault}
 use Rattle.selector.specs.Runs.{begins_with, IsRun}
 use Rattle.selector.specs.Rests.{AtInside, AtSelector, AtQuery, IsBrokenOff, IsReadFault}
 use Rattle.selector.specs.Placed.{placed_at}
+use Rattle.selector.specs.declared.fault.SelectorFault.{SelectorFault}
+use Rattle.selector.specs.declared.fault.SelectorFault.TheVariants.{Kind, Syntax, TooMany, Pattern, PatternRefused, Memory}
 use Rattle.selector.specs.declared.written.ReadFault.{ReadFault}
 use Rattle.selector.specs.declared.written.ReadFault.TheVariants as rest
 use Rattle.selector.proofs.BreakLemmas.{BeginAlike, broken_after, broken_past, breaks_at}
@@ -115,12 +118,27 @@ broken_query text inside left is broken =
 
 -- ---- faults
 
-pub placed_fault : (Form : List ℕ → List Matching → Type 0) (text : List ℕ) (fault : ReadFault) → IsReadFault (λ t. (matchers : List Matching) × Form t matchers) text fault
-    → IsFaultOf Form text (placed_at (length text) fault)
-placed_fault Form text (rest.BreaksOff left) w = ((λ matchers form. w.outside (matchers, form)), breaks_at (λ t. (matchers : List Matching) × Form t matchers) text left w)
-placed_fault Form text rest.Memory w = tt
+pub placed_fault : (Form : List ℕ → List Matching → Type 0) (built : List ℕ → Bool) (text : List ℕ) (fault : ReadFault)
+    → IsReadFault (λ t. (matchers : List Matching) × Form t matchers) text fault → IsFaultOf Form built text (placed_at (length text) fault)
+placed_fault Form built text (rest.BreaksOff left) w = ((λ matchers form. w.outside (matchers, form)), breaks_at (λ t. (matchers : List Matching) × Form t matchers) text left w)
+placed_fault Form built text rest.Memory w = tt
 
-pub query_fault : (text : List ℕ) → length (parts_of (kind_of text)) ≡ 5 → (fault : ReadFault) → IsReadFault AtQuery text fault
-    → IsReadQuery text (Err (placed_at (length text) fault))
-query_fault text five (rest.BreaksOff left) w = (five, placed_fault IsQueryOf text (rest.BreaksOff left) w)
-query_fault text five rest.Memory w = tt
+pub query_fault : (built : List ℕ → Bool) (text : List ℕ) → length (parts_of (kind_of text)) ≡ 5 → (fault : ReadFault) → IsReadFault AtQuery text fault
+    → IsReadQueryBy built text (Err (placed_at (length text) fault))
+query_fault built text five (rest.BreaksOff left) w = (five, placed_fault IsQueryOf built text (rest.BreaksOff left) w)
+query_fault built text five rest.Memory w = tt
+
+built_fault : (Form : List ℕ → List Matching → Type 0) (built : List ℕ → Bool) (text : List ℕ) (matchers : List Matching) → Form text matchers
+    → (fault : SelectorFault) → IsBuildFault built matchers fault → IsFaultOf Form built text fault
+built_fault Form built text matchers form Kind w = w
+built_fault Form built text matchers form (Syntax at) w = absurd w
+built_fault Form built text matchers form TooMany w = (matchers, form, w)
+built_fault Form built text matchers form (Pattern i) w = (matchers, form, w.0, w.1)
+built_fault Form built text matchers form (PatternRefused i) w = (matchers, form, w.0, w.1)
+built_fault Form built text matchers form Memory w = tt
+
+pub read_selector : (text : List ℕ) (matchers : List Matching) → IsSelectorText text matchers → (result : Result (List Matching) SelectorFault)
+    → MatchResult result (λ selector. (selector ≡ matchers) × (length selector ≤ 16) × AreBuilt (λ _. true) selector) (λ fault. (built : List ℕ → Bool) × IsBuildFault built matchers fault)
+    → IsReadSelector text result
+read_selector text matchers form (Ok selector) w = (λ _. true, record { form = subst (IsSelectorText text) (sym w.0) form; few = w.1; each = w.2 })
+read_selector text matchers form (Err fault) w = (w.0, built_fault IsSelectorText w.0 text matchers form fault w.1)

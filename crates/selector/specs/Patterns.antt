@@ -1,5 +1,5 @@
 -- A matcher's pattern, in the words of the crate regex.
-use Rattle.std.specs.Prelude.{◌≡◌, ◌⊎◌, ◌<◌, ℕ, List, ◌++◌, Bool, false, Option, Some, None, IfSome, is_some, chars, codes}
+use Rattle.std.specs.Prelude.{◌≡◌, ◌⊎◌, ◌<◌, ℕ, List, ◌++◌, Bool, false, Option, Some, None, IfSome, IsTrue, IsFalse, is_some, chars, codes}
 use Rattle.regex.specs.Patterns.{Re, find_str, default_config}
 use Rattle.regex.specs.Failures.{IsPattern}
 use Rattle.regex_syntax.specs.Grammar.{Names, read}
@@ -27,8 +27,8 @@ finds_read (Some found) value = is_some (find_str found.0.value value 0)
 abbrev pub finds : List ℕ → List ℕ → Bool
 finds pattern value = finds_read (read default_config (chars (anchored pattern))) value
 
--- a pattern that was built: it is read alone, and between its anchors
-pub record IsBuilt (pattern : List ℕ) : Type 0 where
+-- a pattern whose syntax is right: it is read alone, and between its anchors
+pub record IsWellFormed (pattern : List ℕ) : Type 0 where
   pub alone : IsReadable pattern
   pub whole : IsReadable (anchored pattern)
 
@@ -36,7 +36,13 @@ pub record IsBuilt (pattern : List ℕ) : Type 0 where
 abbrev pub IsBadSyntax : List ℕ → Type 0
 IsBadSyntax pattern = IsUnreadable pattern ⊎ (IsReadable pattern × IsUnreadable (anchored pattern))
 
--- A pattern that may be refused for another cause than its syntax: it is read alone, and then it, or it between
--- its anchors, is too big for regex. Which patterns those are is left open, as regex leaves it.
-abbrev pub MayBeTooBig : List ℕ → Type 0
-MayBeTooBig pattern = IsReadable pattern
+-- Which patterns of right syntax regex builds, both alone and between their anchors, and which are too large for it,
+-- it leaves open. So that is an argument, `built`, which says it of each pattern.
+
+-- a pattern that regex builds
+abbrev pub IsBuilt : (List ℕ → Bool) → List ℕ → Type 0
+IsBuilt built pattern = IsWellFormed pattern × IsTrue (built pattern)
+
+-- a pattern that is too large for regex
+abbrev pub IsTooLarge : (List ℕ → Bool) → List ℕ → Type 0
+IsTooLarge built pattern = IsWellFormed pattern × IsFalse (built pattern)

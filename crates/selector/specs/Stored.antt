@@ -3,9 +3,9 @@ use Rattle.std.specs.Prelude.{◌≡◌, ◌<◌, ℕ, List, is_some, slice_inde
 use Rattle.regex.specs.Patterns.{default_config, find_str}
 use Rattle.regex.specs.Strings.{regex_source, regex_config, regex_pattern, IsReadFromSource}
 use Rattle.regex.specs.declared.string.regex.Regex.{Regex}
-use Rattle.selector.specs.Patterns.{finds, IsReadable, IsUnreadable, IsBadSyntax, MayBeTooBig}
+use Rattle.selector.specs.Patterns.{finds, IsReadable, IsUnreadable, IsWellFormed, IsBadSyntax}
 use Rattle.selector.specs.declared.pattern.PatternFault.{PatternFault}
-use Rattle.selector.specs.declared.pattern.PatternFault.TheVariants.{Syntax, TooBig, Memory}
+use Rattle.selector.specs.declared.pattern.PatternFault.TheVariants.{Syntax, TooLarge, Memory}
 
 -- the regex is what regex's grammar reads in the text
 pub record IsBuiltFrom (text : List ℕ) (regex : Regex) : Type 0 where
@@ -21,11 +21,11 @@ IsFoundAs pattern regex =
 -- what a refusal of a text says of it
 abbrev pub IsRefusalOf : List ℕ → PatternFault → Type 0
 IsRefusalOf text Syntax = IsUnreadable text
-IsRefusalOf text TooBig = IsReadable text
+IsRefusalOf text TooLarge = IsReadable text
 IsRefusalOf text Memory = Unit {0}
 
 -- what a refusal of a pattern says of it
 abbrev pub IsRefused : List ℕ → PatternFault → Type 0
 IsRefused pattern Syntax = IsBadSyntax pattern
-IsRefused pattern TooBig = MayBeTooBig pattern
+IsRefused pattern TooLarge = IsWellFormed pattern
 IsRefused pattern Memory = Unit {0}

@@ -14,7 +14,7 @@ mod tokens;
 mod written;
 
 pub use fault::SelectorFault;
-pub use laws::one_meaning;
+pub use laws::{one_answer, one_meaning};
 pub use matchers::{MAX_MATCHERS, NAME_LABEL, TYPE_LABEL};
 pub use operator::Operator;
 pub use query::Query;

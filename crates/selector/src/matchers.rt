@@ -1,10 +1,11 @@
 // A selector's matchers, with their patterns built.
-ghost use Rattle.std.specs.Prelude.{◌≡◌, ◌≤◌, IfOk, MatchResult, map, length, string_bytes};
+ghost use Rattle.std.specs.Prelude.{◌≡◌, ◌≢◌, ◌≤◌, ℕ, Bool, List, IfOk, MatchOption, MatchResult, map, length, string_bytes, true};
+ghost use Rattle.std.specs.Arc.{arc_value};
 ghost use Rattle.selector.specs.Matching.{Matching, passes, holds, seen_labels, value_of};
 ghost use Rattle.selector.specs.Matchers.{matching_of, operator_of, asked_of};
-ghost use Rattle.selector.specs.Read.{AreBuilt, ForPattern};
-ghost use Rattle.selector.specs.Patterns.{IsBuilt};
-ghost use Rattle.selector.specs.Building.{IsUnbuilt, IsBuildFault};
+ghost use Rattle.selector.specs.Read.{AreBuilt, ForPattern, ForPatterns, OfPattern};
+ghost use Rattle.selector.specs.Patterns.{IsWellFormed};
+ghost use Rattle.selector.specs.Building.{IsNew, IsUnbuilt, IsBuildFault};
 ghost use Rattle.selector.specs.Rests as rests;
 
 use crate::pattern::{Pattern, PatternFault};
@@ -12,6 +13,7 @@ use crate::written::Written;
 use crate::{Operator, SelectorFault};
 use profile_model::{LabelSet, ProfileType};
 use std::alloc::{AllocError, Global};
+use std::sync::Arc;
 
 /// The most matchers of a selector.
 pub const MAX_MATCHERS: usize = 16;
@@ -29,26 +31,46 @@ pub(crate) struct Matcher {
     test: Test,
 }
 
-// An operator, with what it compares with.
+// An operator, with what it compares with. Matchers with the same pattern share it.
 #[derive(Drop)]
 enum Test {
     Equal(String),
     NotEqual(String),
-    Finds(Pattern),
-    FindsNot(Pattern),
+    Finds(Arc<Pattern>),
+    FindsNot(Arc<Pattern>),
 }
 
 impl Test {
-    fn build(alloc: Global, operator: Operator, asked: String) -> Result<Test, PatternFault>
+    fn build(
+        alloc: Global,
+        before: &[Matcher],
+        operator: Operator,
+        asked: String,
+    ) -> Result<Test, PatternFault>
+        requires formed { ForPatterns IsWellFormed (map matching_of before.now) }
         ensures { MatchResult result
-            (λ test. (operator_of test ≡ operator) × (asked_of test ≡ string_bytes asked) × ForPattern IsBuilt operator (string_bytes asked))
-            (IsUnbuilt operator (string_bytes asked)) }
+            (λ test. (operator_of test ≡ operator) × (asked_of test ≡ string_bytes asked) × ForPattern IsWellFormed operator (string_bytes asked))
+            (IsUnbuilt (map matching_of before.now) operator (string_bytes asked)) }
     {
         match operator {
             Operator::Equal => Ok(Test::Equal(asked)),
             Operator::NotEqual => Ok(Test::NotEqual(asked)),
-            Operator::Finds => Ok(Test::Finds(Pattern::build(alloc, asked)?)),
-            Operator::FindsNot => Ok(Test::FindsNot(Pattern::build(alloc, asked)?)),
+            Operator::Finds => Ok(Test::Finds(shared_pattern(alloc, before, asked)?)),
+            Operator::FindsNot => Ok(Test::FindsNot(shared_pattern(alloc, before, asked)?)),
+        }
+    }
+
+    // Its pattern, where this is the pattern's text.
+    fn pattern_of(&self, text: &str) -> Option<&Arc<Pattern>>
+        ensures { MatchOption result
+            (ForPattern (λ other. other ≢ text.now) (operator_of self.now) (asked_of self.now))
+            (λ pattern. OfPattern (λ other. other ≡ text.now) (operator_of self.now) (asked_of self.now) × (string_bytes (arc_value pattern.now).text ≡ text.now)) }
+    {
+        match self {
+            Test::Finds(pattern) | Test::FindsNot(pattern) if pattern.text() == text => Some(
+                pattern,
+            ),
+            _ => None,
         }
     }
 
@@ -67,19 +89,17 @@ impl Test {
 impl Matcher {
     fn build(
         alloc: Global,
-        name: &str,
-        operator: Operator,
-        asked: String,
+        before: &[Matcher],
+        written: Written<'_>,
     ) -> Result<Matcher, PatternFault>
+        requires formed { ForPatterns IsWellFormed (map matching_of before.now) }
         ensures { MatchResult result
-            (λ matcher. (matching_of matcher ≡ record { name = name.now; operator = operator; value = string_bytes asked }) × ForPattern IsBuilt operator (string_bytes asked))
-            (IsUnbuilt operator (string_bytes asked)) }
+            (λ matcher. (matching_of matcher ≡ rests.matching_of written.entry) × ForPattern IsWellFormed written.entry.operator (string_bytes written.entry.value))
+            (IsUnbuilt (map matching_of before.now) written.entry.operator (string_bytes written.entry.value)) }
     {
-        let test = Test::build(alloc, operator, asked)?;
-        match String::from_str(alloc, name) {
-            Ok(name) => Ok(Matcher { name, test }),
-            Err(_) => Err(PatternFault::Memory),
-        }
+        let test = Test::build(alloc, before, written.operator, written.value)?;
+        let name = String::from_str(alloc, written.name)?;
+        Ok(Matcher { name, test })
     }
 
     pub(crate) fn holds(
@@ -105,14 +125,45 @@ impl Matcher {
     }
 }
 
+// The pattern with this text: that of a matcher before, where one has it.
+fn shared_pattern(
+    alloc: Global,
+    before: &[Matcher],
+    text: String,
+) -> Result<Arc<Pattern>, PatternFault>
+    requires formed { ForPatterns IsWellFormed (map matching_of before.now) }
+    ensures { MatchResult result
+        (λ pattern. (string_bytes (arc_value pattern).text ≡ string_bytes text) × IsWellFormed (string_bytes text))
+        (IsUnbuilt (map matching_of before.now) Operator.Finds (string_bytes text)) }
+{
+    match find_pattern(before, text.as_str()) {
+        Some(pattern) => Ok(pattern.clone()?),
+        None => Ok(Arc::new(alloc, Pattern::build(alloc, text)?)?),
+    }
+}
+
+fn find_pattern<'a>(matchers: &'a [Matcher], text: &str) -> Option<&'a Arc<Pattern>>
+    requires formed { ForPatterns IsWellFormed (map matching_of matchers.now) }
+    ensures { MatchOption result
+        (IsNew (map matching_of matchers.now) text.now)
+        (λ pattern. (string_bytes (arc_value pattern.now).text ≡ text.now) × IsWellFormed text.now) }
+{
+    for matcher in matchers {
+        if let Some(pattern) = matcher.test.pattern_of(text) {
+            return Some(pattern);
+        }
+    }
+    None
+}
+
 // The matchers that were written, with their patterns built in order.
 pub(crate) fn build_all(
     alloc: Global,
     written: Vec<Written<'_>>,
 ) -> Result<Vec<Matcher>, SelectorFault>
     ensures { MatchResult result
-        (λ matchers. (map matching_of matchers.items ≡ map rests.matching_of written.entry.items) × (length written.entry.items ≤ 16) × AreBuilt (map rests.matching_of written.entry.items))
-        (IsBuildFault (map rests.matching_of written.entry.items)) }
+        (λ matchers. (map matching_of matchers.items ≡ map rests.matching_of written.entry.items) × (length written.entry.items ≤ 16) × AreBuilt (λ _. true) (map rests.matching_of written.entry.items))
+        (λ fault. (built : List ℕ → Bool) × IsBuildFault built (map rests.matching_of written.entry.items) fault) }
 {
     if written.len() > MAX_MATCHERS {
         return Err(SelectorFault::TooMany);
@@ -120,10 +171,10 @@ pub(crate) fn build_all(
     let mut matchers = Vec::new(alloc);
     for matcher in written {
         let number = matchers.len();
-        match Matcher::build(alloc, matcher.name, matcher.operator, matcher.value) {
+        match Matcher::build(alloc, &matchers, matcher) {
             Ok(matcher) => matchers.push(matcher)?,
             Err(PatternFault::Syntax) => return Err(SelectorFault::Pattern(number)),
-            Err(PatternFault::TooBig) => return Err(SelectorFault::PatternRefused(number)),
+            Err(PatternFault::TooLarge) => return Err(SelectorFault::PatternRefused(number)),
             Err(PatternFault::Memory) => return Err(SelectorFault::Memory),
         }
     }

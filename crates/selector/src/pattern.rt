@@ -1,10 +1,11 @@
 // The pattern of a matcher.
-ghost use Rattle.std.specs.Prelude.{◌≡◌, MatchResult, IfOk, IfErr, string_bytes};
-ghost use Rattle.selector.specs.Patterns.{anchored, finds, IsBuilt};
+ghost use Rattle.std.specs.Prelude.{◌≡◌, ◌≢◌, MatchResult, IfOk, IfErr, OnOk, string_bytes};
+ghost use Rattle.selector.specs.Patterns.{anchored, finds, IsReadable, IsWellFormed};
 ghost use Rattle.selector.specs.Stored.{IsFoundAs, IsBuiltFrom, IsRefusalOf, IsRefused};
+ghost use Rattle.selector.specs.declared.pattern.PatternFault.TheVariants.{Memory};
 
 use regex::Regex;
-use std::alloc::{AllocError, Global};
+use std::alloc::{AllocError, AllocFailed, Global};
 
 // A pattern P, and what `regex` built of `\A(?:P)\z`.
 #[derive(Drop)]
@@ -18,24 +19,48 @@ pub(crate) struct Pattern {
 #[derive(Clone, Copy, Debug, PartialEq, Eq)]
 pub(crate) enum PatternFault {
     Syntax,
-    TooBig,
+    TooLarge,
     Memory,
 }
 
+impl From<AllocError> for PatternFault {
+    ghost from_gives = { λ _ fault. fault ≡ Memory };
+
+    fn from(_error: AllocError) -> PatternFault {
+        PatternFault::Memory
+    }
+}
+
+impl<T: Drop> From<AllocFailed<T>> for PatternFault {
+    ghost from_gives = { λ _ fault. fault ≡ Memory };
+
+    fn from(_error: AllocFailed<T>) -> PatternFault {
+        PatternFault::Memory
+    }
+}
+
 impl Pattern {
-    // The pattern has to be one by itself too: `a)(?:b` is one only between the anchors.
+    // The pattern has to be one by itself too: `a)(?:b` is one only between the anchors. What is too large by itself
+    // may still be none between them.
     pub(crate) fn build(alloc: Global, text: String) -> Result<Pattern, PatternFault>
         ensures { MatchResult result
-            (λ pattern. (string_bytes pattern.text ≡ string_bytes text) × IsBuilt (string_bytes text))
+            (λ pattern. (string_bytes pattern.text ≡ string_bytes text) × IsWellFormed (string_bytes text))
             (IsRefused (string_bytes text)) }
     {
-        build(alloc, text.as_str())?;
-        let whole = match anchor(alloc, text.as_str()) {
-            Ok(whole) => whole,
-            Err(_) => return Err(PatternFault::Memory),
-        };
+        let fits = fits(alloc, text.as_str())?;
+        let whole = anchor(alloc, text.as_str())?;
         let regex = build(alloc, whole.as_str())?;
-        Ok(Pattern { text, regex })
+        if fits {
+            Ok(Pattern { text, regex })
+        } else {
+            Err(PatternFault::TooLarge)
+        }
+    }
+
+    pub(crate) fn text(&self) -> &str
+        ensures { result.now ≡ string_bytes self.now.text }
+    {
+        self.text.as_str()
     }
 
     pub(crate) fn is_found(&self, alloc: Global, value: &str) -> Result<bool, AllocError>
@@ -56,6 +81,18 @@ fn anchor(alloc: Global, pattern: &str) -> Result<String, AllocError>
     Ok(text)
 }
 
+// Whether the text, which is a pattern, isn't too large.
+fn fits(alloc: Global, text: &str) -> Result<bool, PatternFault>
+    ensures ok { OnOk result (IsReadable text.now) }
+    ensures err { IfErr result (λ fault. (fault ≢ PatternFault.TooLarge) × IsRefusalOf text.now fault) }
+{
+    match build(alloc, text) {
+        Ok(_) => Ok(true),
+        Err(PatternFault::TooLarge) => Ok(false),
+        Err(fault) => Err(fault),
+    }
+}
+
 fn build(alloc: Global, text: &str) -> Result<Regex, PatternFault>
     ensures ok { IfOk result (IsBuiltFrom text.now) }
     ensures err { IfErr result (IsRefusalOf text.now) }
@@ -63,7 +100,7 @@ fn build(alloc: Global, text: &str) -> Result<Regex, PatternFault>
     match Regex::new(alloc, text) {
         Ok(regex) => Ok(regex),
         Err(regex::Error::Syntax(_)) => Err(PatternFault::Syntax),
-        Err(regex::Error::CompiledTooBig) => Err(PatternFault::TooBig),
+        Err(regex::Error::CompiledTooBig) => Err(PatternFault::TooLarge),
         Err(regex::Error::Internal) => unreachable!(),
         Err(regex::Error::OutOfMemory) => Err(PatternFault::Memory),
     }

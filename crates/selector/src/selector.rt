@@ -1,5 +1,5 @@
 // Which labels are asked for.
-ghost use Rattle.std.specs.Prelude.{◌≡◌, ◌≤◌, IfOk, MatchResult, map, length};
+ghost use Rattle.std.specs.Prelude.{◌≡◌, ◌≤◌, ℕ, Bool, List, IfOk, MatchResult, map, length, true};
 ghost use Rattle.selector.specs.Grammar.{IsSelectorText};
 ghost use Rattle.selector.specs.Matching.{Matching, matches};
 ghost use Rattle.selector.specs.Building.{IsBuildFault};
@@ -46,8 +46,8 @@ impl Selector {
 
     pub(crate) fn build(alloc: Global, written: Vec<Written<'_>>) -> Result<Selector, SelectorFault>
         ensures { MatchResult result
-            (λ selector. (selector ≡ map matching_of written.entry.items) × (length selector ≤ 16) × AreBuilt selector)
-            (IsBuildFault (map matching_of written.entry.items)) }
+            (λ selector. (selector ≡ map matching_of written.entry.items) × (length selector ≤ 16) × AreBuilt (λ _. true) selector)
+            (λ fault. (built : List ℕ → Bool) × IsBuildFault built (map matching_of written.entry.items) fault) }
     {
         let matchers = build_all(alloc, written)?;
         Ok(Selector { alloc, matchers })

@@ -1,6 +1,7 @@
 use Rattle.std.proofs.Common.{◌≡◌, ◌≤◌, ◌++◌, map, length}
 use Rattle.selector.specs.Matchers.{matching_of}
-use Rattle.selector.specs.Read.{AreBuilt}
+use Rattle.selector.specs.Read.{ForPatterns}
+use Rattle.selector.specs.Patterns.{IsWellFormed}
 use Rattle.selector.specs.Rests as rests
 use Rattle.selector.proofs.matchers.build_all.Given as goal
 
@@ -8,5 +9,5 @@ abbrev pub invariant-loop-matcher : goal.invariant-loop-matcher
 invariant-loop-matcher l = record {
   few : length l.fn.written.items ≤ 16;
   together : map matching_of l.matchers.items ++ map rests.matching_of l.matcher-iterator.rest.items ≡ map rests.matching_of l.fn.written.items;
-  built : AreBuilt (map matching_of l.matchers.items);
+  formed : ForPatterns IsWellFormed (map matching_of l.matchers.items);
 }

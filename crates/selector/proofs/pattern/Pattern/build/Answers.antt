@@ -6,7 +6,7 @@ use Rattle.selector.proofs.pattern.Pattern.build.Goals as goal
 
 pub invariant_of-result : goal.invariant_of-result
 invariant_of-result c =
-    let whole = c.as_str-3.ensures.value ∙ c.in-Ok.ensures ∙ ap anchored c.as_str-2.ensures.value in
+    let whole = c.as_str-3.ensures.value ∙ c.in_ok-whole.ensures ∙ ap anchored c.as_str-2.ensures.value in
     record {
       same = found_as (string_bytes c.args.text) c.in_ok-regex.regex (subst (λ text. IsBuiltFrom text c.in_ok-regex.regex) whole c.in_ok-regex.ensures.ok);
     }

@@ -2,6 +2,7 @@
 use Rattle.std.proofs.Common.{◌≡◌, ◌≢◌, ◌<◌, ◌≤◌, ℕ, List, Option, Some, None, length, get_or, is_some, IsSomeAnd, true, ⊎_elim, inl, inr, subst}
 use Rattle.std.specs.Str.{chars}
 use Rattle.regex.specs.Patterns.{Re, default_config, find_str}
+use Rattle.regex.specs.Failures.{IsPattern}
 use Rattle.regex.specs.Strings.{regex_source, regex_pattern}
 use Rattle.regex.specs.declared.string.regex.Regex.{Regex}
 use Rattle.regex.proofs.ForCallers.{is_match_alike}
@@ -11,7 +12,7 @@ use Rattle.regex_syntax.specs.declared.error.ErrorKind.TheVariants.{OutOfMemory}
 use Rattle.regex_syntax.specs.Grammar.{Names, group_count, read}
 use Rattle.regex_syntax.specs.Brackets.{Nested}
 use Rattle.regex_syntax.specs.Verdict.{Reads, Refuses}
-use Rattle.selector.specs.Patterns.{anchored, finds_read, IsUnreadable}
+use Rattle.selector.specs.Patterns.{anchored, finds_read, IsReadable, IsUnreadable}
 use Rattle.selector.specs.Stored.{IsBuiltFrom, IsFoundAs}
 
 pub no_pattern : (text : List ℕ) (kind : ErrorKind) → Refuses default_config text kind → kind ≢ OutOfMemory → IsUnreadable text
@@ -35,3 +36,8 @@ found_read text regex value bytes built =
 -- what was built of a pattern between its anchors is found as the pattern is
 pub found_as : (pattern : List ℕ) (regex : Regex) → IsBuiltFrom (anchored pattern) regex → IsFoundAs pattern regex
 found_as pattern regex built value bytes = found_read (anchored pattern) regex value bytes built
+
+-- what is built of a text is a pattern
+pub readable : (text : List ℕ) (regex : Regex) → IsBuiltFrom text regex → IsReadable text
+readable text regex built =
+    subst IsReadable built.source (subst (λ config. IsPattern config (regex_source regex)) built.config (_, _, built.reads))

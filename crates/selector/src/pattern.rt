@@ -48,8 +48,7 @@ impl Pattern {
             (IsRefused (string_bytes text)) }
     {
         let fits = fits(alloc, text.as_str())?;
-        let whole = anchor(alloc, text.as_str())?;
-        let regex = build(alloc, whole.as_str())?;
+        let regex = build_anchored(alloc, text.as_str())?;
         if fits {
             Ok(Pattern { text, regex })
         } else {
@@ -91,6 +90,15 @@ fn fits(alloc: Global, text: &str) -> Result<bool, PatternFault>
         Err(PatternFault::TooLarge) => Ok(false),
         Err(fault) => Err(fault),
     }
+}
+
+// What is built of `\A(?:P)\z`.
+fn build_anchored(alloc: Global, pattern: &str) -> Result<Regex, PatternFault>
+    ensures ok { IfOk result (λ regex. IsReadable (anchored pattern.now) × IsFoundAs pattern.now regex) }
+    ensures err { IfErr result (IsRefusalOf (anchored pattern.now)) }
+{
+    let whole = anchor(alloc, pattern)?;
+    build(alloc, whole.as_str())
 }
 
 fn build(alloc: Global, text: &str) -> Result<Regex, PatternFault>

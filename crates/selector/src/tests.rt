@@ -6,10 +6,6 @@ use std::test::Fail;
 // 41 bytes.
 const KIND: &str = "process_cpu:samples:count:cpu:nanoseconds";
 
-fn kind(alloc: Global) -> Result<ProfileType, Fail> {
-    Ok(ProfileType::read(alloc, KIND)?)
-}
-
 fn labels(alloc: Global, pairs: &[(&str, &str)]) -> Result<LabelSet, Fail> {
     let mut named = Vec::new(alloc);
     for (name, value) in pairs {
@@ -24,7 +20,69 @@ fn labels(alloc: Global, pairs: &[(&str, &str)]) -> Result<LabelSet, Fail> {
 // Whether a selector matches a profile with these labels.
 fn matches(alloc: Global, text: &str, pairs: &[(&str, &str)]) -> Result<bool, Fail> {
     let mut selector = Selector::read(alloc, text)?;
-    Ok(selector.matches(&labels(alloc, pairs)?, &kind(alloc)?)?)
+    let kind = ProfileType::read(alloc, KIND)?;
+    Ok(selector.matches(&labels(alloc, pairs)?, &kind)?)
+}
+
+// The same of one whose label `a` has this value.
+fn matches_a(alloc: Global, text: &str, value: &str) -> Result<bool, Fail> {
+    matches(alloc, text, &[("a", value)])
+}
+
+// Whether a selector tells `x` from `y`.
+fn tells_x(alloc: Global, text: &str) -> Result<bool, Fail> {
+    Ok(matches_a(alloc, text, "x")? && !matches_a(alloc, text, "y")?)
+}
+
+fn is_refused(alloc: Global, text: &str, fault: SelectorFault) -> bool {
+    Selector::read(alloc, text).err() == Some(fault)
+}
+
+// 16 matchers, and this end.
+fn sixteen(alloc: Global, end: &str) -> Result<String, Fail> {
+    let mut text = String::from_str(alloc, "{")?;
+    for _ in 0..16 {
+        text.push_str("a=\"x\",")?;
+    }
+    text.push_str(end)?;
+    Ok(text)
+}
+
+fn sixteen_tell_x(alloc: Global, end: &str) -> Result<bool, Fail> {
+    let text = sixteen(alloc, end)?;
+    tells_x(alloc, text.as_str())
+}
+
+fn sixteen_are_refused(alloc: Global, end: &str, fault: SelectorFault) -> Result<bool, Fail> {
+    let text = sixteen(alloc, end)?;
+    Ok(is_refused(alloc, text.as_str(), fault))
+}
+
+// Whether a query asks for a production profile of its own kind.
+fn asks_for_production(alloc: Global, text: &str) -> Result<bool, Fail> {
+    let mut query = Query::read(alloc, text)?;
+    let labels = labels(alloc, &[("env", "prod")])?;
+    Ok(query.selector.matches(&labels, &query.kind)?)
+}
+
+fn is_of_kind(alloc: Global, text: &str, kind: &str) -> Result<bool, Fail> {
+    let query = Query::read(alloc, text)?;
+    Ok(query.kind == ProfileType::read(alloc, kind)?)
+}
+
+fn is_query_refused(alloc: Global, text: &str, fault: SelectorFault) -> bool {
+    Query::read(alloc, text).err() == Some(fault)
+}
+
+fn shows(
+    alloc: Global,
+    fault: SelectorFault,
+    code: Option<&str>,
+    place: Option<u64>,
+    text: &str,
+) -> Result<bool, Fail> {
+    let shown = fault.to_string(alloc)?;
+    Ok(fault.code() == code && fault.place() == place && shown.as_str() == text)
 }
 
 #[test]
@@ -34,6 +92,8 @@ fn matchers_compare_whole_values(rt: HostRuntime) -> Result<(), Fail> {
     for (text, answer) in [
         ("", true),
         ("{}", true),
+        (" { } ", true),
+        ("{\n}", true),
         ("{service_name=\"shop\"}", true),
         ("{service_name=\"sho\"}", false),
         ("{service_name!=\"shop\"}", false),
@@ -48,27 +108,21 @@ fn matchers_compare_whole_values(rt: HostRuntime) -> Result<(), Fail> {
         ("{service_name=\"shop\",env=\"prod\"}", true),
         ("{service_name=\"shop\",env=\"dev\"}", false),
         ("{service_name=\"cart\",env=\"prod\"}", false),
+        // A pattern that two matchers share.
+        ("{env=~\"p.*\",service_name!~\"p.*\"}", true),
+        ("{env=~\"p.*\",service_name=~\"p.*\"}", false),
+        // An absent label is the empty text.
+        ("{a=\"\"}", true),
+        ("{a=\"x\"}", false),
+        ("{a!=\"\"}", false),
+        ("{a!=\"x\"}", true),
+        ("{a=~\"\"}", true),
+        ("{a=~\"x*\"}", true),
+        ("{a=~\"x+\"}", false),
+        ("{a!~\"x*\"}", false),
+        ("{a!~\"x+\"}", true),
     ] {
-        assert_eq!(rt; matches(alloc, text, &shop)?, answer, "{text}");
-    }
-    Ok(())
-}
-
-#[test]
-fn an_absent_label_is_the_empty_text(rt: HostRuntime) -> Result<(), Fail> {
-    let alloc = rt.alloc();
-    for (text, answer) in [
-        ("{env=\"\"}", true),
-        ("{env=\"x\"}", false),
-        ("{env!=\"\"}", false),
-        ("{env!=\"x\"}", true),
-        ("{env=~\"\"}", true),
-        ("{env=~\"x*\"}", true),
-        ("{env=~\"x+\"}", false),
-        ("{env!~\"x*\"}", false),
-        ("{env!~\"x+\"}", true),
-    ] {
-        assert_eq!(rt; matches(alloc, text, &[])?, answer, "{text}");
+        assert!(rt; matches(alloc, text, &shop)? == answer, "{text}");
     }
     Ok(())
 }
@@ -87,8 +141,8 @@ fn the_types_own_labels_are_seen_first(rt: HostRuntime) -> Result<(), Fail> {
         ("{__profile_type__=\"memory\"}", false),
         ("{__profile_type__=~\".*:cpu:nanoseconds\"}", true),
     ] {
-        assert_eq!(rt; matches(alloc, text, &own)?, answer, "{text}");
-        assert_eq!(rt; matches(alloc, text, &[])?, answer, "{text}");
+        assert!(rt; matches(alloc, text, &own)? == answer, "{text}");
+        assert!(rt; matches(alloc, text, &[])? == answer, "{text}");
     }
     Ok(())
 }
@@ -96,20 +150,20 @@ fn the_types_own_labels_are_seen_first(rt: HostRuntime) -> Result<(), Fail> {
 #[test]
 fn escapes_stand_for_bytes(rt: HostRuntime) -> Result<(), Fail> {
     let alloc = rt.alloc();
-    for (text, value, answer) in [
-        ("{a=\"x\\\\y\"}", "x\\y", true),
-        ("{a=\"x\\\"y\"}", "x\"y", true),
-        ("{a=\"x\\ny\"}", "x\ny", true),
-        ("{a=\"x\\ty\"}", "x\ty", true),
-        ("{a=\"x\\ty\"}", "x\\ty", false),
+    for (text, value) in [
+        ("{a=\"x\\\\y\"}", "x\\y"),
+        ("{a=\"x\\\"y\"}", "x\"y"),
+        ("{a=\"x\\ny\"}", "x\ny"),
+        ("{a=\"x\\ty\"}", "x\ty"),
+        ("{a!=\"x\\ty\"}", "x\\ty"),
         // The tab and any other byte stand for themselves.
-        ("{a=\"x\ty\"}", "x\ty", true),
-        ("{a=\"läs}{,=~\"}", "läs}{,=~", true),
+        ("{a=\"x\ty\"}", "x\ty"),
+        ("{a=\"läs}{,=~\"}", "läs}{,=~"),
         // A pattern's backslash is written twice.
-        ("{a=~\"\\\\d+\"}", "42", true),
-        ("{a=~\"\\\\d+\"}", "d", false),
+        ("{a=~\"\\\\d+\"}", "42"),
+        ("{a!~\"\\\\d+\"}", "d"),
     ] {
-        assert_eq!(rt; matches(alloc, text, &[("a", value)])?, answer, "{text}");
+        assert!(rt; matches_a(alloc, text, value)?, "{text}");
     }
     Ok(())
 }
@@ -129,12 +183,18 @@ fn white_space_stands_before_each_token(rt: HostRuntime) -> Result<(), Fail> {
         " \t\r\n{ a = \"x\" , } \t\r\n",
         "{a=\"x\",}",
     ] {
-        assert!(rt; matches(alloc, text, &[("a", "x")])?, "{text}");
-        assert!(rt; !matches(alloc, text, &[("a", "y")])?, "{text}");
+        assert!(rt; tells_x(alloc, text)?, "{text}");
     }
-    for text in [" { } ", "{\n}"] {
-        assert!(rt; matches(alloc, text, &[])?, "{text}");
-    }
+    Ok(())
+}
+
+#[test]
+fn a_selector_has_at_most_16_matchers(rt: HostRuntime) -> Result<(), Fail> {
+    let alloc = rt.alloc();
+    assert!(rt; sixteen_tell_x(alloc, "}")?);
+    assert!(rt; sixteen_are_refused(alloc, "a=~\"(\"}", SelectorFault::TooMany)?);
+    // A text that isn't of the grammar is told before.
+    assert!(rt; sixteen_are_refused(alloc, "a=~\"(\"", SelectorFault::Syntax(103))?);
     Ok(())
 }
 
@@ -176,35 +236,11 @@ fn a_text_breaks_where_no_selector_goes_on(rt: HostRuntime) {
         ("{a=\"x\"}}", 7),
         ("{a=\"x\"} b", 8),
     ] {
-        assert_eq!(rt;
-            Selector::read(alloc, text).err(),
-            Some(SelectorFault::Syntax(at)),
+        assert!(rt;
+            is_refused(alloc, text, SelectorFault::Syntax(at)),
             "{text}"
         );
     }
-}
-
-#[test]
-fn a_selector_has_at_most_16_matchers(rt: HostRuntime) -> Result<(), Fail> {
-    let alloc = rt.alloc();
-    let mut text = String::from_str(alloc, "{")?;
-    for _ in 0..16 {
-        text.push_str("a=\"x\",")?;
-    }
-    let full = format!(in alloc; "{text}}}")?;
-    assert!(rt; matches(alloc, full.as_str(), &[("a", "x")])?);
-    let over = format!(in alloc; "{text}a=~\"(\"}}")?;
-    assert_eq!(rt;
-        Selector::read(alloc, over.as_str()).err(),
-        Some(SelectorFault::TooMany)
-    );
-    // A text that isn't of the grammar is told before.
-    let broken = format!(in alloc; "{text}a=~\"(\"")?;
-    assert_eq!(rt;
-        Selector::read(alloc, broken.as_str()).err(),
-        Some(SelectorFault::Syntax(103))
-    );
-    Ok(())
 }
 
 #[test]
@@ -217,47 +253,52 @@ fn the_first_pattern_that_is_refused_is_told(rt: HostRuntime) {
             "{a=\"(\",b=~\"x\",c=~\"*\",d=~\"(\"}",
             SelectorFault::Pattern(2),
         ),
-        // A pattern between its anchors alone, and one alone.
+        // A pattern between its anchors alone, and two by themselves alone, of which one is too large.
         ("{a=~\"x)(?:y\"}", SelectorFault::Pattern(0)),
         ("{a=~\"(?x)a#\"}", SelectorFault::Pattern(0)),
-        // Too big for regex.
+        (
+            "{a=~\"(?x)((a{1000}){1000}){1000}#\"}",
+            SelectorFault::Pattern(0),
+        ),
+        // Too large for regex.
         (
             "{a=\"x\",b=~\"((a{1000}){1000}){1000}\"}",
             SelectorFault::PatternRefused(1),
         ),
+        (
+            "{a=~\"((a{1000}){1000}){1000}\",b=~\"(\"}",
+            SelectorFault::PatternRefused(0),
+        ),
     ] {
-        assert_eq!(rt; Selector::read(alloc, text).err(), Some(fault), "{text}");
+        assert!(rt; is_refused(alloc, text, fault), "{text}");
     }
 }
 
 #[test]
 fn a_query_is_a_kind_and_a_selector(rt: HostRuntime) -> Result<(), Fail> {
     let alloc = rt.alloc();
-    for (rest, answer) in [
-        ("", true),
-        ("{}", true),
-        ("{env=\"prod\"} ", true),
-        ("{env=\"dev\"}", false),
+    for (text, answer) in [
+        (KIND, true),
+        ("process_cpu:samples:count:cpu:nanoseconds{}", true),
+        (
+            "process_cpu:samples:count:cpu:nanoseconds{env=\"prod\"} ",
+            true,
+        ),
+        (
+            "process_cpu:samples:count:cpu:nanoseconds{env=\"dev\"}",
+            false,
+        ),
     ] {
-        let text = format!(in alloc; "{KIND}{rest}")?;
-        let mut query = Query::read(alloc, text.as_str())?;
-        assert_eq!(rt; query.kind, kind(alloc)?);
-        assert_eq!(rt;
-            query
-                .selector
-                .matches(&labels(alloc, &[("env", "prod")])?, &query.kind)?,
-            answer,
-            "{text}"
-        );
+        assert!(rt; is_of_kind(alloc, text, KIND)?, "{text}");
+        assert!(rt; asks_for_production(alloc, text)? == answer, "{text}");
     }
     // Without braces all is the kind, trailing blanks included.
-    let query = Query::read(alloc, "a:b:c:d: ")?;
-    assert_eq!(rt; query.kind.period_unit.as_str(), " ");
+    assert!(rt; is_of_kind(alloc, "a:b:c:d: ", "a:b:c:d: ")?);
     Ok(())
 }
 
 #[test]
-fn a_query_has_the_first_of_its_faults(rt: HostRuntime) -> Result<(), Fail> {
+fn a_query_has_the_first_of_its_faults(rt: HostRuntime) {
     let alloc = rt.alloc();
     for (text, fault) in [
         ("", SelectorFault::Kind),
@@ -275,9 +316,8 @@ fn a_query_has_the_first_of_its_faults(rt: HostRuntime) -> Result<(), Fail> {
         ),
         ("::::{a=~\"(\"}", SelectorFault::Pattern(0)),
     ] {
-        assert_eq!(rt; Query::read(alloc, text).err(), Some(fault), "{text}");
+        assert!(rt; is_query_refused(alloc, text, fault), "{text}");
     }
-    Ok(())
 }
 
 #[test]
@@ -316,9 +356,7 @@ fn faults_have_codes_places_and_texts(rt: HostRuntime) -> Result<(), Fail> {
         ),
         (SelectorFault::Memory, None, None, "out of memory"),
     ] {
-        assert_eq!(rt; fault.code(), code);
-        assert_eq!(rt; fault.place(), place);
-        assert_eq!(rt; fault.to_string(alloc)?.as_str(), text);
+        assert!(rt; shows(alloc, fault, code, place, text)?, "{text}");
     }
     Ok(())
 }

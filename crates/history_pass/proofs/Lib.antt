@@ -1,0 +1,4 @@
+pub mod MarkLemmas
+pub mod SeatLemmas
+pub mod StepLemmas
+pub mod MeetingLemmas

@@ -3,6 +3,9 @@ use Rattle.std.proofs.Common.{◌≡◌, ◌≢◌, ◌⊎◌, ⊎_elim, inl, in
 use Rattle.std.specs.Prelude.{◌&&◌, nat_le, not, filter, Option, Some, None, is_ok, is_some, option_map, Result, MatchResult}
 use Rattle.std.specs.List.{position}
 use Rattle.std.specs.BTreeSet.{insert_key}
+use Rattle.faults.specs.Answers.{IfFault}
+use Rattle.faults.specs.declared.refused.Refused.{Refused}
+use Rattle.faults.specs.declared.refused.Refused.TheVariants.{Fault, Memory}
 use Rattle.std.proofs.lemmas.Bool.{false≢true}
 use Rattle.std.proofs.lemmas.Result.{MatchResult-at_ok}
 use Rattle.std.proofs.lemmas.List.{take_all, take_more, drop_more, take-append-drop, length-map, map-append}
@@ -28,7 +31,7 @@ use Rattle.api_replies.specs.declared.ask.LabelQuery.TheVariants as ask
 use Rattle.api_replies.specs.declared.task.LabelMethod.{LabelMethod}
 use Rattle.api_replies.specs.declared.task.LabelMethod.TheVariants.{Names, Values, Series}
 use Rattle.api_replies.specs.declared.refusal.Refusal.{Refusal}
-use Rattle.api_replies.specs.declared.refusal.Refusal.TheVariants.{WrongKind, Selector, Window, Memory}
+use Rattle.api_replies.specs.declared.refusal.Refusal.TheVariants.{WrongKind, Selector, Window}
 use Rattle.api_replies.proofs.RenderingLemmas.{profiles_in}
 
 -- ---- label sets
@@ -99,13 +102,13 @@ memory_or_other no_memory = inl refl
 memory_or_other fault = inr (λ is. cc)
 
 pub selector_refused : {X : Type 0} (said : X → List ℕ) (xs : List X) (i : ℕ) (d : X) (selectors : List (List Matching)) (fault : SelectorFault)
-    (refusal : Refusal) → i < length xs → length xs ≤ 16 → AreSelectors (map said (take i xs)) selectors
-    → IsReadSelector (said (get_or xs i d)) (Err fault) → (fault ≡ no_memory → refusal ≡ Memory) → (fault ≢ no_memory → refusal ≡ Selector fault)
-    → IsSelectorsRefused (map said xs) refusal
+    (refusal : Refused Refusal) → i < length xs → length xs ≤ 16 → AreSelectors (map said (take i xs)) selectors
+    → IsReadSelector (said (get_or xs i d)) (Err fault) → (fault ≡ no_memory → refusal ≡ Memory) → (fault ≢ no_memory → refusal ≡ Fault (Selector fault))
+    → IfFault (IsSelectorsRefused (map said xs)) refusal
 selector_refused said xs i d selectors fault refusal within few are is memory other =
     ⊎_elim
-    (λ none. subst (IsSelectorsRefused (map said xs)) (sym (memory none)) tt)
-    (λ some. subst (IsSelectorsRefused (map said xs)) (sym (other some))
+    (λ none. subst (IfFault (IsSelectorsRefused (map said xs))) (sym (memory none)) tt)
+    (λ some. subst (IfFault (IsSelectorsRefused (map said xs))) (sym (other some))
     (inr (subst (λ n. n ≤ 16) (sym (length-map xs said)) few, some, first_refused said xs i d selectors fault within are is)))
     (memory_or_other fault)
 
@@ -129,10 +132,10 @@ kinds_said method value query texts from until says matchers window = absurd say
 
 -- what the parts of a query say is the query of its object
 pub object_asks : (method : LabelMethod) (value : Data) (tenant : List ℕ) (query : LabelQuery) (texts : List (List ℕ)) (from until : ℕ)
-    (result : Result LabelAsk Refusal) → method_of query ≡ method → SaysQuery method value query
+    (result : Result LabelAsk (Refused Refusal)) → method_of query ≡ method → SaysQuery method value query
     → texts_in (codes "matchers") value ≡ Some texts → HasWindow value from until
-    → MatchResult result (IsAskOf tenant query texts from until) (IsAskOfRefused texts from until)
-    → MatchResult result (SaysLabelAsk method value tenant) (IsAskRefused method value)
+    → MatchResult result (IsAskOf tenant query texts from until) (IfFault (IsAskOfRefused texts from until))
+    → MatchResult result (SaysLabelAsk method value tenant) (IfFault (IsAskRefused method value))
 object_asks method value tenant query texts from until (Ok asked) is says matchers window parts =
     let same = parts.1 in let from_is = parts.2 in let until_is = parts.3 in (
       texts,
@@ -145,17 +148,17 @@ object_asks method value tenant query texts from until (Ok asked) is says matche
       rw (from_is, until_is) window,
       rw (from_is, until_is) parts.6,
     )
-object_asks method value tenant query texts from until (Err Window) is says matchers window parts =
+object_asks method value tenant query texts from until (Err (Fault Window)) is says matchers window parts =
     (texts, parts.0, from, until, kinds_said method value query texts from until says matchers window, matchers, parts.1, parts.2, window, parts.3)
-object_asks method value tenant query texts from until (Err (Selector fault)) is says matchers window parts =
+object_asks method value tenant query texts from until (Err (Fault (Selector fault))) is says matchers window parts =
     (texts, kinds_said method value query texts from until says matchers window, matchers, parts)
 object_asks method value tenant query texts from until (Err Memory) is says matchers window parts = tt
-object_asks method value tenant query texts from until (Err refusal) is says matchers window parts = absurd parts
+object_asks method value tenant query texts from until (Err (Fault refusal)) is says matchers window parts = absurd parts
 
 -- what the body's object asks is what the body asks
-pub body_asks : (method : LabelMethod) (body : List ℕ) (tenant : List ℕ) (value : Data) (result : Result LabelAsk Refusal)
-    → IsReadObject (or_braces body) (Ok value) → MatchResult result (SaysLabelAsk method value tenant) (IsAskRefused method value)
-    → MatchResult result (λ ask. (ask.tenant ≡ tenant) × (method_of ask.query ≡ method) × IsLabelAsk method body ask) (IsLabelFault method body)
+pub body_asks : (method : LabelMethod) (body : List ℕ) (tenant : List ℕ) (value : Data) (result : Result LabelAsk (Refused Refusal))
+    → IsReadObject (or_braces body) (Ok value) → MatchResult result (SaysLabelAsk method value tenant) (IfFault (IsAskRefused method value))
+    → MatchResult result (λ ask. (ask.tenant ≡ tenant) × (method_of ask.query ≡ method) × IsLabelAsk method body ask) (IfFault (IsLabelFault method body))
 body_asks method body tenant value (Ok asked) object says = (
   says.1,
   says.2,
@@ -174,13 +177,13 @@ body_asks method body tenant value (Ok asked) object says = (
     ordered = says.8;
   },
 )
-body_asks method body tenant value (Err (WrongKind at)) object says = (value, object, says)
-body_asks method body tenant value (Err (Selector fault)) object says =
+body_asks method body tenant value (Err (Fault (WrongKind at))) object says = (value, object, says)
+body_asks method body tenant value (Err (Fault (Selector fault))) object says =
     (value, says.0, record { object = object; kinds = says.1; matchers = says.2 }, says.3)
-body_asks method body tenant value (Err Window) object says =
+body_asks method body tenant value (Err (Fault Window)) object says =
     (value, says.0, says.1, says.2, says.3, record { object = object; kinds = says.4; matchers = says.5 }, says.6, says.7, says.8, says.9)
 body_asks method body tenant value (Err Memory) object says = tt
-body_asks method body tenant value (Err refusal) object says = absurd says
+body_asks method body tenant value (Err (Fault refusal)) object says = absurd says
 
 -- what held of a result whose error alone was mapped
 pub kept_ok : {X E F : Type 0} (P : X → Type 0) (Q R : E → Type 0) (before : Result X E) (after : Result X F) (x : X)

@@ -5,28 +5,22 @@ use Rattle.http_session.specs.Asked.{Asked}
 use Rattle.http_session.specs.declared.reply.Reply.{Reply}
 use Rattle.http_session.specs.declared.reply.Status.{Status}
 use Rattle.http_session.specs.declared.reply.Status.TheVariants.{Ok}
-use Rattle.folded_reader.specs.declared.fault.FoldedFault.{FoldedFault}
-use Rattle.folded_reader.specs.declared.fault.FoldedFault.TheVariants as folded
-use Rattle.ingest.specs.declared.fault.IngestFault.{IngestFault}
-use Rattle.ingest.specs.declared.fault.IngestFault.TheVariants as ingest
 use Rattle.ingest.specs.Faults as ingested
-use Rattle.json_push.specs.declared.fault.PushFault.{PushFault}
-use Rattle.json_push.specs.declared.fault.PushFault.TheVariants as push
 use Rattle.json_push.specs.Faults as pushed
-use Rattle.pprof_codec.specs.declared.fault.PprofFault.{PprofFault}
-use Rattle.pprof_codec.specs.declared.fault.PprofFault.TheVariants as pprof
 use Rattle.profile_model.specs.History.{front_of, pushes_of}
 use Rattle.profile_model.specs.declared.push.Push.{Push}
+use Rattle.api_replies.specs.Facts.{Facts}
 use Rattle.api_replies.specs.Forms.{tenant_of}
 use Rattle.api_replies.specs.Meanings.{IsAsk, IsWrite}
-use Rattle.api_replies.specs.Refusals.{code_of, folded_status, ingest_status, place_of, pprof_status, push_status, reply_for_reading, reply_for_refusal}
-use Rattle.api_replies.specs.Replies.{IsReply, answer_to}
+use Rattle.api_replies.specs.Refusals.{code_of, ingest_status, place_of, push_status, reply_for_reading, reply_for_refusal}
+use Rattle.api_replies.specs.Replies.{IsExcused, IsReply, answer_to}
 use Rattle.api_replies.specs.declared.ask.Ask.{Ask}
 use Rattle.api_replies.specs.declared.ask.Ask.TheVariants.{Render, Labels}
 use Rattle.api_replies.specs.declared.form.PushForm.{PushForm}
 use Rattle.api_replies.specs.declared.form.PushForm.TheVariants as written
 use Rattle.api_replies.specs.declared.refusal.Refusal.{Refusal}
 use Rattle.api_replies.specs.declared.refusal.Refusal.TheVariants as refusal
+use Rattle.api_replies.proofs.StatusLemmas.{ingest_blames, push_blames}
 
 -- ---- a tenant's own pushes
 
@@ -49,20 +43,20 @@ abbrev pub asker : Ask → List ℕ
 asker (Render what) = what.tenant
 asker (Labels what) = what.tenant
 
-pub asker_is_named : (single : Bool) (asked : Asked) (what : Ask) → IsAsk single asked what → tenant_of single asked ≡ Some (asker what)
-asker_is_named single asked (Render what) asks = asks.0.named
-asker_is_named single asked (Labels what) asks = asks.0.named
+pub asker_is_named : (facts : Facts) (asked : Asked) (what : Ask) → IsAsk facts asked what → tenant_of facts asked ≡ Some (asker what)
+asker_is_named facts asked (Render what) asks = asks.0.named
+asker_is_named facts asked (Labels what) asks = asks.0.named
 
-pub writer_is_named : (single : Bool) (asked : Asked) (form : PushForm) (push : Push) → IsWrite single asked form push → tenant_of single asked ≡ Some push.tenant
-writer_is_named single asked written.Ingest push write = write.0.named
-writer_is_named single asked written.Json push write = write.0.named
+pub writer_is_named : (facts : Facts) (asked : Asked) (form : PushForm) (push : Push) → IsWrite facts asked form push → tenant_of facts asked ≡ Some push.tenant
+writer_is_named facts asked written.Ingest push write = write.0.named
+writer_is_named facts asked written.Json push write = write.0.named
 
 -- a query is no write
-asks_no_write : (single : Bool) (asked : Asked) (what : Ask) (form : PushForm) (push : Push) → IsAsk single asked what → IsWrite single asked form push → ⊥
-asks_no_write single asked (Render what) written.Ingest push asks write = let query = asks.0.task_is in let task = write.0.task_is in cc
-asks_no_write single asked (Render what) written.Json push asks write = let query = asks.0.task_is in let task = write.0.task_is in cc
-asks_no_write single asked (Labels what) written.Ingest push asks write = let query = asks.0.task_is in let task = write.0.task_is in cc
-asks_no_write single asked (Labels what) written.Json push asks write = let query = asks.0.task_is in let task = write.0.task_is in cc
+asks_no_write : (facts : Facts) (asked : Asked) (what : Ask) (form : PushForm) (push : Push) → IsAsk facts asked what → IsWrite facts asked form push → ⊥
+asks_no_write facts asked (Render what) written.Ingest push asks write = let query = asks.0.task_is in let task = write.0.task_is in cc
+asks_no_write facts asked (Render what) written.Json push asks write = let query = asks.0.task_is in let task = write.0.task_is in cc
+asks_no_write facts asked (Labels what) written.Ingest push asks write = let query = asks.0.task_is in let task = write.0.task_is in cc
+asks_no_write facts asked (Labels what) written.Json push asks write = let query = asks.0.task_is in let task = write.0.task_is in cc
 
 -- ---- queries
 
@@ -78,104 +72,47 @@ answer_shows history (Render what) now close = refl
 answer_shows history (Labels what) now close = refl
 
 -- a reply is over the pushes of the request's tenant alone
-pub reply_alike : (single : Bool) (asked : Asked) (history other : List Push) (reply : Reply)
-    → ((tenant : List ℕ) → tenant_of single asked ≡ Some tenant → pushes_of history tenant ≡ pushes_of other tenant)
-    → IsReply single asked history reply → IsReply single asked other reply
-reply_alike single asked history other reply same (inl refused) = inl refused
-reply_alike single asked history other reply same (inr (what, asks, is)) =
-    inr (what, asks, is ∙ answer_alike history other what asked.moment asked.close (same (asker what) (asker_is_named single asked what asks)))
+pub reply_alike : (facts : Facts) (asked : Asked) (history other : List Push) (reply : Reply)
+    → ((tenant : List ℕ) → tenant_of facts asked ≡ Some tenant → pushes_of history tenant ≡ pushes_of other tenant)
+    → IsReply facts asked history reply → IsReply facts asked other reply
+reply_alike facts asked history other reply same (inl refused) = inl refused
+reply_alike facts asked history other reply same (inr (what, asks, is)) =
+    inr (what, asks, is ∙ answer_alike history other what asked.moment asked.close (same (asker what) (asker_is_named facts asked what asks)))
 
 -- ---- refusals
 
 -- a refusal shows no front, and isn't 200
-abbrev RefusesPlainly : Reply → Type 0
+abbrev pub RefusesPlainly : Reply → Type 0
 RefusesPlainly reply = (reply.front ≡ None) × (reply.status ≢ Ok)
 
 fault_refuses : (with : Status) (code : Option (List ℕ)) (place : List ℕ) (now : ℕ) (close : Bool) → with ≢ Ok → RefusesPlainly (reply_for_reading with code place now close)
 fault_refuses with None place now close wrong = (refl, λ is. cc)
 fault_refuses with (Some code) place now close wrong = (refl, wrong)
 
-folded_refuses : (fault : FoldedFault) → folded_status fault ≢ Ok
-folded_refuses (folded.NoCount line) is = cc
-folded_refuses (folded.BadCount line) is = cc
-folded_refuses (folded.EmptyFrame line) is = cc
-folded_refuses (folded.TooLarge line) is = cc
-folded_refuses (folded.TooDeep line) is = cc
-folded_refuses (folded.NotUtf8 at) is = cc
-folded_refuses folded.Compressed is = cc
-folded_refuses (folded.LongFrame line) is = cc
-folded_refuses folded.Memory is = cc
-
-pprof_refuses : (fault : PprofFault) → pprof_status fault ≢ Ok
-pprof_refuses (pprof.Broken at) is = cc
-pprof_refuses pprof.NoEmptyText is = cc
-pprof_refuses (pprof.NoSuchText member number) is = cc
-pprof_refuses (pprof.ZeroId member number) is = cc
-pprof_refuses (pprof.RepeatedId member number) is = cc
-pprof_refuses (pprof.NoSuchLocation sample) is = cc
-pprof_refuses (pprof.NoSuchFunction location) is = cc
-pprof_refuses (pprof.WrongValueCount sample) is = cc
-pprof_refuses (pprof.NegativeValue sample value) is = cc
-pprof_refuses (pprof.TooLarge kind) is = cc
-pprof_refuses (pprof.TooDeep sample) is = cc
-pprof_refuses (pprof.NotUtf8 text) is = cc
-pprof_refuses pprof.Compressed is = cc
-pprof_refuses (pprof.LongFrame function) is = cc
-pprof_refuses pprof.Weight is = cc
-pprof_refuses pprof.Memory is = cc
-
-ingest_refuses : (fault : IngestFault) → ingest_status fault ≢ Ok
-ingest_refuses (ingest.Name at) is = cc
-ingest_refuses (ingest.Label fault) is = cc
-ingest_refuses ingest.From is = cc
-ingest_refuses ingest.Format is = cc
-ingest_refuses (ingest.Folded fault) is = folded_refuses fault is
-ingest_refuses (ingest.Pprof fault) is = pprof_refuses fault is
-ingest_refuses ingest.Weight is = cc
-ingest_refuses ingest.Memory is = cc
-
-push_refuses : (fault : PushFault) → push_status fault ≢ Ok
-push_refuses push.NotObject is = cc
-push_refuses (push.Shape series sample) is = cc
-push_refuses (push.Label series fault) is = cc
-push_refuses (push.NotBase64 series sample) is = cc
-push_refuses (push.Pprof series sample fault) is = pprof_refuses fault is
-push_refuses (push.TooMany series sample) is = cc
-push_refuses (push.Weight series sample) is = cc
-push_refuses push.Memory is = cc
-
 refusal_refuses : (wrong : Refusal) (now : ℕ) (close : Bool) → RefusesPlainly (reply_for_refusal wrong now close)
-refusal_refuses refusal.NoRoute now close = (refl, λ is. cc)
-refusal_refuses (refusal.WrongMethod method) now close = (refl, λ is. cc)
-refusal_refuses refusal.Unbuilt now close = (refl, λ is. cc)
-refusal_refuses refusal.NoTenant now close = (refl, λ is. cc)
-refusal_refuses (refusal.BadTenant at) now close = (refl, λ is. cc)
-refusal_refuses refusal.Encoded now close = (refl, λ is. cc)
-refusal_refuses (refusal.Ingest fault) now close = fault_refuses (ingest_status fault) (ingested.code_of fault) (ingested.place_of fault) now close (ingest_refuses fault)
-refusal_refuses (refusal.Push fault) now close = fault_refuses (push_status fault) (pushed.code_of fault) (pushed.place_of fault) now close (push_refuses fault)
-refusal_refuses refusal.NoQuery now close = (refl, λ is. cc)
+refusal_refuses (refusal.Ingest fault) now close = fault_refuses (ingest_status fault) (ingested.code_of fault) (ingested.place_of fault) now close (ingest_blames fault).0
+refusal_refuses (refusal.Push fault) now close = fault_refuses (push_status fault) (pushed.code_of fault) (pushed.place_of fault) now close (push_blames fault).0
 refusal_refuses (refusal.Selector fault) now close = fault_refuses _ (code_of (refusal.Selector fault)) (place_of (refusal.Selector fault)) now close (λ is. cc)
-refusal_refuses refusal.From now close = (refl, λ is. cc)
-refusal_refuses refusal.Until now close = (refl, λ is. cc)
-refusal_refuses refusal.Window now close = (refl, λ is. cc)
-refusal_refuses refusal.NotObject now close = (refl, λ is. cc)
-refusal_refuses (refusal.WrongKind at) now close = (refl, λ is. cc)
-refusal_refuses refusal.Memory now close = (refl, λ is. cc)
+refusal_refuses wrong now close = (refl, λ is. cc)
+
+-- nor does what comes in place of a reply
+pub excused_refuses : (facts : Facts) (asked : Asked) (reply : Reply) → IsExcused facts asked reply → RefusesPlainly reply
+excused_refuses facts asked reply (takes, is) = rw is (refl, λ same. cc)
 
 -- ---- what a reply shows
 
 -- a front that a reply shows is that of the request's tenant
-pub shows_its_front : (single : Bool) (asked : Asked) (history : List Push) (reply : Reply) (front : ℕ)
-    → IsReply single asked history reply → reply.front ≡ Some front
-    → (tenant : List ℕ) × (tenant_of single asked ≡ Some tenant) × (front ≡ front_of history tenant)
-shows_its_front single asked history reply front (inl (wrong, refused, is)) shown =
+pub shows_its_front : (facts : Facts) (asked : Asked) (history : List Push) (reply : Reply) (front : ℕ)
+    → IsReply facts asked history reply → reply.front ≡ Some front
+    → (tenant : List ℕ) × (tenant_of facts asked ≡ Some tenant) × (front ≡ front_of history tenant)
+shows_its_front facts asked history reply front (inl (wrong, refused, is)) shown =
     let none = (refusal_refuses wrong asked.moment asked.close).0 in absurd (some_is_not_none front (sym shown ∙ ap (λ (r : Reply). r.front) is ∙ none))
   where
     some_is_not_none : (n : ℕ) → ◌≡◌ {A = Option ℕ} (Some n) None → ⊥
     some_is_not_none n same = cc
-shows_its_front single asked history reply front (inr (what, asks, is)) shown = (
+shows_its_front facts asked history reply front (inr (what, asks, is)) shown = (
   asker what,
-  asker_is_named single asked what asks,
+  asker_is_named facts asked what asks,
   one_front front (front_of history (asker what)) (sym shown ∙ ap (λ (r : Reply). r.front) is ∙ answer_shows history what asked.moment asked.close),
 )
   where
@@ -183,8 +120,8 @@ shows_its_front single asked history reply front (inr (what, asks, is)) shown = 
     one_front m n same = cc
 
 -- a write isn't answered 200 from a history
-pub answers_no_write : (single : Bool) (asked : Asked) (history : List Push) (reply : Reply) (form : PushForm) (push : Push)
-    → IsReply single asked history reply → IsWrite single asked form push → reply.status ≢ Ok
-answers_no_write single asked history reply form push (inl (wrong, refused, is)) write ok =
+pub answers_no_write : (facts : Facts) (asked : Asked) (history : List Push) (reply : Reply) (form : PushForm) (push : Push)
+    → IsReply facts asked history reply → IsWrite facts asked form push → reply.status ≢ Ok
+answers_no_write facts asked history reply form push (inl (wrong, refused, is)) write ok =
     (refusal_refuses wrong asked.moment asked.close).1 (sym (ap (λ (r : Reply). r.status) is) ∙ ok)
-answers_no_write single asked history reply form push (inr (what, asks, is)) write ok = asks_no_write single asked what form push asks write
+answers_no_write facts asked history reply form push (inr (what, asks, is)) write ok = asks_no_write facts asked what form push asks write

@@ -1,5 +1,5 @@
 -- What of a request is looked at before its parameters and its body: its route, its tenant and its forms.
-use Rattle.std.specs.Prelude.{◌||◌, ℕ, Bool, true, false, not, List, [], ◌∷◌, map, nat_eq, is_some, codes, Option, Some, None}
+use Rattle.std.specs.Prelude.{◌||◌, ℕ, Bool, false, not, List, [], ◌∷◌, map, nat_eq, is_some, codes, Option, Some, None, if◌then◌else◌}
 use Rattle.std.specs.Char.{to_ascii_lowercase}
 use Rattle.std.specs.Cmp.Lexicographic.{pointwise}
 use Rattle.std.specs.List.{starts_with}
@@ -9,6 +9,7 @@ use Rattle.routes.specs.declared.route.Route.{Route}
 use Rattle.routes.specs.declared.route.Route.TheVariants as route
 use Rattle.routes.specs.declared.route.Found.{Found}
 use Rattle.routes.specs.declared.route.Found.TheVariants as found
+use Rattle.api_replies.specs.Facts.{Facts}
 use Rattle.api_replies.specs.declared.task.Task.{Task}
 use Rattle.api_replies.specs.declared.task.Task.TheVariants.{Ingest, Push, Render, Labels}
 use Rattle.api_replies.specs.declared.task.LabelMethod.TheVariants.{Names, Values, Series}
@@ -42,9 +43,8 @@ abbrev pub task_at : Asked → Option Task
 task_at asked = task_for (found_at asked.method asked.path)
 
 -- the name of the tenant: the header's, or the one tenant's of a run that has only one
-abbrev pub tenant_of : Bool → Asked → Option (List ℕ)
-tenant_of true asked = Some (codes "anonymous")
-tenant_of false asked = asked.tenant
+abbrev pub tenant_of : Facts → Asked → Option (List ℕ)
+tenant_of facts asked = if facts.single then Some (codes "anonymous") else asked.tenant
 
 -- a coding other than identity, which is compared without case
 abbrev pub is_coded : Option (List ℕ) → Bool

@@ -18,7 +18,9 @@ use Rattle.api_replies.specs.declared.ask.LabelQuery.TheVariants as ask
 use Rattle.api_replies.specs.declared.task.LabelMethod.{LabelMethod}
 use Rattle.api_replies.specs.declared.task.LabelMethod.TheVariants.{Names, Values, Series}
 use Rattle.api_replies.specs.declared.refusal.Refusal.{Refusal}
-use Rattle.api_replies.specs.declared.refusal.Refusal.TheVariants.{NotObject, WrongKind, Selector, Window, Memory}
+use Rattle.api_replies.specs.declared.refusal.Refusal.TheVariants.{NotObject, WrongKind, Selector, Window}
+use Rattle.faults.specs.declared.refused.Refused.{Refused}
+use Rattle.faults.specs.declared.refused.Refused.TheVariants.{Fault, Memory}
 
 -- whether each field of the method is of its kind, in the order of its list
 abbrev pub kinds_of : LabelMethod → Data → List Bool
@@ -95,7 +97,6 @@ IsLabelFault method body (Selector fault) =
 IsLabelFault method body Window =
     (value : Data) × (texts : List (List ℕ)) × (selectors : List (List Matching)) × (from : ℕ) × (until : ℕ)
     × HasFields method body value texts × (length texts ≤ 16) × AreSelectors texts selectors × HasWindow value from until × (until < from)
-IsLabelFault method body Memory = Unit {0}
 IsLabelFault method body refusal = ⊥
 
 -- ---- what reading the parts answers
@@ -110,7 +111,6 @@ SaysLabelAsk method value tenant asked =
 -- why these texts are no selectors
 abbrev pub IsSelectorsRefused : List (List ℕ) → Refusal → Type 0
 IsSelectorsRefused texts (Selector fault) = IsSelectorsFault texts fault
-IsSelectorsRefused texts Memory = Unit {0}
 IsSelectorsRefused texts refusal = ⊥
 
 -- the query of these parts
@@ -132,9 +132,8 @@ IsAskRefused method value Window =
     (texts : List (List ℕ)) × (selectors : List (List Matching)) × (from : ℕ) × (until : ℕ)
     × (position not (kinds_of method value) ≡ None) × (texts_in (codes "matchers") value ≡ Some texts)
     × (length texts ≤ 16) × AreSelectors texts selectors × HasWindow value from until × (until < from)
-IsAskRefused method value Memory = Unit {0}
 IsAskRefused method value refusal = ⊥
 
-abbrev pub refusal_of : FieldFault → Refusal
-refusal_of (wrong_kind at) = WrongKind at
+abbrev pub refusal_of : FieldFault → Refused Refusal
+refusal_of (wrong_kind at) = Fault (WrongKind at)
 refusal_of no_room = Memory

@@ -1,3 +1,4 @@
+pub mod Facts
 pub mod Forms
 pub mod Renders
 pub mod LabelAsks
@@ -7,3 +8,4 @@ pub mod Refusals
 pub mod Replies
 pub mod Rendering
 pub mod Listing
+pub mod ReplyLaws

@@ -1,5 +1,5 @@
 -- What a request means: a write, a query, or the first refusal in the order of refusals.
-use Rattle.std.specs.Prelude.{◌≡◌, ◌≢◌, ◌⊎◌, ℕ, Bool, true, false, List, IsSome, Some, None}
+use Rattle.std.specs.Prelude.{◌≡◌, ◌≢◌, ◌⊎◌, ℕ, true, false, List, IsSome, Some, None}
 use Rattle.http_session.specs.Asked.{Asked}
 use Rattle.ingest.specs.Ingests.{SaysProfiles, IsIngestFault}
 use Rattle.ingest.specs.declared.fault.IngestFault.TheVariants.{Memory as no_memory}
@@ -11,6 +11,9 @@ use Rattle.query_parameters.specs.Parameters.{parameters_of}
 use Rattle.routes.specs.Paths.{found_at}
 use Rattle.routes.specs.declared.route.Route.{Route}
 use Rattle.routes.specs.declared.route.Found.TheVariants as found
+use Rattle.api_replies.specs.Facts.{Facts}
+use Rattle.faults.specs.declared.refused.Refused.{Refused}
+use Rattle.faults.specs.declared.refused.Refused.TheVariants.{Fault, Memory}
 use Rattle.api_replies.specs.Forms.{task_at, task_of, tenant_of, is_encoded, asks_for_front}
 use Rattle.api_replies.specs.Renders.{IsRenderAsk, IsRenderFault}
 use Rattle.api_replies.specs.LabelAsks.{IsLabelAsk, IsLabelFault, method_of}
@@ -26,34 +29,34 @@ use Rattle.api_replies.specs.declared.refusal.Refusal.{Refusal}
 use Rattle.api_replies.specs.declared.refusal.Refusal.TheVariants as refused
 
 -- the request has a route that is built, and names a tenant
-pub record IsRouted (single : Bool) (asked : Asked) (tenant : List ℕ) : Type 0 where
+pub record IsRouted (facts : Facts) (asked : Asked) (tenant : List ℕ) : Type 0 where
   pub route : IsSome (task_at asked)
-  pub named : tenant_of single asked ≡ Some tenant
+  pub named : tenant_of facts asked ≡ Some tenant
   pub rightly : wrong_place tenant ≡ None
 
 -- the request comes as far as its parameters and its body: nothing before them refuses it
-pub record Reaches (single : Bool) (asked : Asked) (task : Task) (tenant : List ℕ) : Type 0 where
+pub record Reaches (facts : Facts) (asked : Asked) (task : Task) (tenant : List ℕ) : Type 0 where
   pub task_is : task_at asked ≡ Some task
-  pub named : tenant_of single asked ≡ Some tenant
+  pub named : tenant_of facts asked ≡ Some tenant
   pub rightly : wrong_place tenant ≡ None
   pub plain : is_encoded asked ≡ false
   pub built : asks_for_front asked ≡ false
 
 -- the request is a write of this push, in this form
-abbrev pub IsWrite : Bool → Asked → PushForm → Kept → Type 0
-IsWrite single asked written.Ingest push =
-    Reaches single asked Ingest push.tenant × SaysProfiles (parameters_of asked.query) asked.body asked.moment push.profiles
-IsWrite single asked written.Json push = Reaches single asked Push push.tenant × SaysPushed asked.body asked.moment push.profiles
+abbrev pub IsWrite : Facts → Asked → PushForm → Kept → Type 0
+IsWrite facts asked written.Ingest push =
+    Reaches facts asked Ingest push.tenant × SaysProfiles (parameters_of asked.query) asked.body asked.moment push.profiles
+IsWrite facts asked written.Json push = Reaches facts asked Push push.tenant × SaysPushed asked.body asked.moment push.profiles
 
 -- the request is this query
-abbrev pub IsAsk : Bool → Asked → Ask → Type 0
-IsAsk single asked (ask.Render what) = Reaches single asked Render what.tenant × IsRenderAsk (parameters_of asked.query) asked.moment what
-IsAsk single asked (ask.Labels what) =
-    Reaches single asked (Labels (method_of what.query)) what.tenant × IsLabelAsk (method_of what.query) asked.body what
+abbrev pub IsAsk : Facts → Asked → Ask → Type 0
+IsAsk facts asked (ask.Render what) = Reaches facts asked Render what.tenant × IsRenderAsk (parameters_of asked.query) asked.moment what
+IsAsk facts asked (ask.Labels what) =
+    Reaches facts asked (Labels (method_of what.query)) what.tenant × IsLabelAsk (method_of what.query) asked.body what
 
 -- the request comes so far that memory is taken for it
-abbrev pub TakesMemory : Bool → Asked → Type 0
-TakesMemory single asked = (task : Task) × (tenant : List ℕ) × Reaches single asked task tenant
+abbrev pub TakesMemory : Facts → Asked → Type 0
+TakesMemory facts asked = (task : Task) × (tenant : List ℕ) × Reaches facts asked task tenant
 
 -- method and path name no route, one with another method, or one that isn't built
 abbrev pub IsMisrouted : Asked → Refusal → Type 0
@@ -63,16 +66,15 @@ IsMisrouted asked refused.Unbuilt = (route : Route) × (found_at asked.method as
 IsMisrouted asked refusal = ⊥
 
 -- the request is refused, whatever its parameters and its body say
-abbrev pub IsRefusedOutright : Bool → Asked → Refusal → Type 0
-IsRefusedOutright single asked refused.NoTenant = IsSome (task_at asked) × (tenant_of single asked ≡ None)
-IsRefusedOutright single asked (refused.BadTenant at) =
-    IsSome (task_at asked) × ((tenant : List ℕ) × (tenant_of single asked ≡ Some tenant) × (wrong_place tenant ≡ Some at))
-IsRefusedOutright single asked refused.Encoded = (tenant : List ℕ) × IsRouted single asked tenant × (is_encoded asked ≡ true)
-IsRefusedOutright single asked refused.Unbuilt =
+abbrev pub IsRefusedOutright : Facts → Asked → Refusal → Type 0
+IsRefusedOutright facts asked refused.NoTenant = IsSome (task_at asked) × (tenant_of facts asked ≡ None)
+IsRefusedOutright facts asked (refused.BadTenant at) =
+    IsSome (task_at asked) × ((tenant : List ℕ) × (tenant_of facts asked ≡ Some tenant) × (wrong_place tenant ≡ Some at))
+IsRefusedOutright facts asked refused.Encoded = (tenant : List ℕ) × IsRouted facts asked tenant × (is_encoded asked ≡ true)
+IsRefusedOutright facts asked refused.Unbuilt =
     IsMisrouted asked refused.Unbuilt
-    ⊎ ((tenant : List ℕ) × IsRouted single asked tenant × (is_encoded asked ≡ false) × (asks_for_front asked ≡ true))
-IsRefusedOutright single asked refused.Memory = TakesMemory single asked
-IsRefusedOutright single asked refusal = IsMisrouted asked refusal
+    ⊎ ((tenant : List ℕ) × IsRouted facts asked tenant × (is_encoded asked ≡ false) × (asks_for_front asked ≡ true))
+IsRefusedOutright facts asked refusal = IsMisrouted asked refusal
 
 -- the first fault of the parameters and the body of a request to ingest, and of a push
 abbrev pub IsWriteFault : Asked → Refusal → Type 0
@@ -90,16 +92,16 @@ IsTaskFault asked Push = IsPushedFault asked
 IsTaskFault asked Render = IsRenderFault (parameters_of asked.query) asked.moment
 IsTaskFault asked (Labels method) = IsLabelFault method asked.body
 
--- the request is refused, and this is the first refusal; want of memory may come in place of any once memory is taken
-abbrev pub IsRefused : Bool → Asked → Refusal → Type 0
-IsRefused single asked refusal =
-    IsRefusedOutright single asked refusal
-    ⊎ ((task : Task) × (tenant : List ℕ) × Reaches single asked task tenant × IsTaskFault asked task refusal)
+-- the request is refused, and this is the first refusal
+abbrev pub IsRefused : Facts → Asked → Refusal → Type 0
+IsRefused facts asked refusal =
+    IsRefusedOutright facts asked refusal
+    ⊎ ((task : Task) × (tenant : List ℕ) × Reaches facts asked task tenant × IsTaskFault asked task refusal)
 
 -- what the request means, where it isn't refused
-abbrev pub Means : Bool → Asked → Meaning → Type 0
-Means single asked (Write form push) = IsWrite single asked form push
-Means single asked (Query what) = IsAsk single asked what
+abbrev pub Means : Facts → Asked → Meaning → Type 0
+Means facts asked (Write form push) = IsWrite facts asked form push
+Means facts asked (Query what) = IsAsk facts asked what
 
 -- what a request that comes so far means by its task
 abbrev pub MeansTask : Asked → Task → List ℕ → Meaning → Type 0
@@ -111,7 +113,7 @@ MeansTask asked (Labels method) tenant (Query (ask.Labels what)) =
     (what.tenant ≡ tenant) × (method_of what.query ≡ method) × IsLabelAsk method asked.body what
 MeansTask asked task tenant meaning = ⊥
 
--- a refusal, or want of memory
-abbrev pub OrMemory : (Refusal → Type 0) → Refusal → Type 0
-OrMemory P refused.Memory = Unit {0}
-OrMemory P refusal = P refusal
+-- why a request isn't served: its first refusal; or memory ran out, once memory is taken for it
+abbrev pub IsUnserved : Facts → Asked → Refused Refusal → Type 0
+IsUnserved facts asked (Fault refusal) = IsRefused facts asked refusal
+IsUnserved facts asked Memory = TakesMemory facts asked

@@ -21,7 +21,7 @@ use Rattle.pprof_codec.specs.declared.fault.PprofFault.TheVariants as pprof
 use Rattle.selector.specs.Faults as selector
 use Rattle.api_replies.specs.FaultBodies.{named_body, placed_body}
 use Rattle.api_replies.specs.declared.refusal.Refusal.{Refusal}
-use Rattle.api_replies.specs.declared.refusal.Refusal.TheVariants.{NoRoute, WrongMethod, Unbuilt, NoTenant, BadTenant, Encoded, Ingest, Push, NoQuery, Selector, From, Until, Window, NotObject, WrongKind, Memory}
+use Rattle.api_replies.specs.declared.refusal.Refusal.TheVariants.{NoRoute, WrongMethod, Unbuilt, NoTenant, BadTenant, Encoded, Ingest, Push, NoQuery, Selector, From, Until, Window, NotObject, WrongKind}
 
 -- a refusal: JSON, and no front
 abbrev pub refusing : Status → List ℕ → ℕ → Bool → Reply
@@ -99,7 +99,6 @@ reply_for_refusal NoTenant = refusing status.Unauthorized (named_body (codes "te
 reply_for_refusal Encoded = refusing status.UnsupportedMediaType (named_body (codes "encoding"))
 reply_for_refusal (Ingest wrong) = reply_for_ingest wrong
 reply_for_refusal (Push wrong) = reply_for_push wrong
-reply_for_refusal Memory = reply_for_memory
 reply_for_refusal refusal = reply_for_reading status.BadRequest (code_of refusal) (place_of refusal)
 
 -- the last reply of a connection whose bytes are no request, and none where they were cut off

@@ -10,7 +10,7 @@ use Rattle.selector.specs.declared.query.Query.{Query}
 use Rattle.api_replies.specs.Forms.{is_text}
 use Rattle.api_replies.specs.declared.ask.RenderAsk.{RenderAsk}
 use Rattle.api_replies.specs.declared.refusal.Refusal.{Refusal}
-use Rattle.api_replies.specs.declared.refusal.Refusal.TheVariants.{Unbuilt, NoQuery, Selector, From, Until, Window, Memory}
+use Rattle.api_replies.specs.declared.refusal.Refusal.TheVariants.{Unbuilt, NoQuery, Selector, From, Until, Window}
 
 -- parameters: names and values
 abbrev pub Parameters : Type 0
@@ -67,7 +67,6 @@ IsQueryFault parameters NoQuery = (asks_for_folded parameters ≡ true) × (valu
 IsQueryFault parameters (Selector fault) =
     (asks_for_folded parameters ≡ true) × (fault ≢ no_memory)
     × ((text : List ℕ) × (value_of parameters (codes "query") ≡ Some text) × IsReadQuery text (Err fault))
-IsQueryFault parameters Memory = Unit {0}
 IsQueryFault parameters refusal = ⊥
 
 -- the first fault: each where those before it don't hold

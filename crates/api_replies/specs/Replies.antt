@@ -18,7 +18,8 @@ use Rattle.profile_model.specs.declared.push.Push.{Push}
 use Rattle.selector.specs.Matching.{matches}
 use Rattle.serde_json.specs.Written.{compact_text}
 use Rattle.api_replies.specs.FaultBodies.{limit_body}
-use Rattle.api_replies.specs.Meanings.{IsAsk, IsRefused, IsWrite}
+use Rattle.api_replies.specs.Facts.{Facts}
+use Rattle.api_replies.specs.Meanings.{IsAsk, IsRefused, IsWrite, TakesMemory}
 use Rattle.api_replies.specs.Refusals.{reply_for_memory, reply_for_refusal}
 use Rattle.api_replies.specs.declared.answered.Answered.{Answered}
 use Rattle.api_replies.specs.declared.answered.Answered.TheVariants as answered
@@ -96,13 +97,18 @@ abbrev pub answer_to : List Push → Ask → ℕ → Bool → Reply
 answer_to history (ask.Render what) = answering Plain (rendered history what) (front_of history what.tenant)
 answer_to history (ask.Labels what) = answering Json (listed what.query (asked_sets history what)) (front_of history what.tenant)
 
--- A request over a history has this reply, at its own moment. Of a query too, want of memory is a refusal.
-abbrev pub IsReply : Bool → Asked → List Push → Reply → Type 0
-IsReply single asked history reply =
-    ((refusal : Refusal) × IsRefused single asked refusal × (reply ≡ reply_for_refusal refusal asked.moment asked.close))
-    ⊎ ((what : Ask) × IsAsk single asked what × (reply ≡ answer_to history what asked.moment asked.close))
+-- The reply to a request over a history, at its own moment, by definition: of its refusal, or the answer to a query.
+abbrev pub IsReply : Facts → Asked → List Push → Reply → Type 0
+IsReply facts asked history reply =
+    ((refusal : Refusal) × IsRefused facts asked refusal × (reply ≡ reply_for_refusal refusal asked.moment asked.close))
+    ⊎ ((what : Ask) × IsAsk facts asked what × (reply ≡ answer_to history what asked.moment asked.close))
 
--- what is answered: that reply, or the write that the request is
-abbrev pub IsAnswer : Bool → Asked → List Push → Answered → Type 0
-IsAnswer single asked history (answered.Reply reply) = IsReply single asked history reply
-IsAnswer single asked history (answered.Push form push) = IsWrite single asked form push
+-- What else may come in place of the reply by definition, and keeps nothing: that memory ran out, once memory is
+-- taken for the request.
+abbrev pub IsExcused : Facts → Asked → Reply → Type 0
+IsExcused facts asked reply = TakesMemory facts asked × (reply ≡ reply_for_memory asked.moment asked.close)
+
+-- what is answered: the reply, or what else may come; or the write that the request is
+abbrev pub IsAnswer : Facts → Asked → List Push → Answered → Type 0
+IsAnswer facts asked history (answered.Reply reply) = IsReply facts asked history reply ⊎ IsExcused facts asked reply
+IsAnswer facts asked history (answered.Push form push) = IsWrite facts asked form push

@@ -1,6 +1,7 @@
 // The reply to a request over a history, or the write that it asks for.
 ghost use Rattle.std.specs.Prelude.{◌≡◌, ◌⊎◌};
 ghost use Rattle.profile_model.specs.History.{HasBoundedTotals};
+ghost use Rattle.api_replies.specs.Facts.{facts_of};
 ghost use Rattle.api_replies.specs.Refusals.{reply_for_memory};
 ghost use Rattle.api_replies.specs.Replies.{IsAnswer, answer_to, answering};
 
@@ -11,6 +12,7 @@ use crate::labels::listed_text;
 use crate::meaning::{Meaning, meaning_of};
 use crate::refusal::memory_reply;
 use crate::render::folded_text;
+use faults::Refused;
 use http_session::{Body, Reply, Request, Status, Text};
 use profile_model::{Push, front};
 use std::alloc::Global;
@@ -26,12 +28,15 @@ pub enum Answered {
 /// The reply to a request over the pushes that were accepted before it, or its push.
 pub fn answer(alloc: Global, request: &Request, history: &[Push], config: &Config) -> Answered
     requires { HasBoundedTotals history.now }
-    ensures answer { IsAnswer config.now.single_tenant request.now history.now result }
+    ensures answer { IsAnswer (facts_of config.now) request.now history.now result }
 {
     match meaning_of(alloc, request, config) {
         Ok(Meaning::Write(form, push)) => Answered::Push(form, push),
         Ok(Meaning::Query(ask)) => Answered::Reply(answer_query(alloc, request, history, ask)),
-        Err(refusal) => Answered::Reply(refusal.reply(request.moment(), request.close())),
+        Err(Refused::Fault(refusal)) => {
+            Answered::Reply(refusal.reply(request.moment(), request.close()))
+        }
+        Err(Refused::Memory) => Answered::Reply(memory_reply(request.moment(), request.close())),
     }
 }
 

@@ -1,10 +1,12 @@
 // What the body of a query for labels asks for.
 ghost use Rattle.std.specs.Prelude.{◌≡◌, ◌≢◌, ◌≤◌, IfOk, MatchResult, length, map};
+ghost use Rattle.faults.specs.Answers.{IfFault};
 ghost use Rattle.api_replies.specs.LabelAsks.{AreSelectors, IsAskOf, IsAskOfRefused, IsAskRefused, IsLabelAsk, IsLabelFault, IsSelectorsRefused, SaysLabelAsk, method_of, refusal_of};
 
 use crate::ask::{LabelAsk, LabelQuery};
 use crate::refusal::Refusal;
 use crate::task::LabelMethod;
+use faults::Refused;
 use json_bodies::{FieldFault, JsonFault, JsonObject, LabelNamesBody, LabelValuesBody, SeriesBody};
 use profile_model::{Name, Tenant};
 use selector::{Selector, SelectorFault};
@@ -19,14 +21,15 @@ pub(crate) fn read_label_ask(
     tenant: Tenant,
     method: LabelMethod,
     body: &[u8],
-) -> Result<LabelAsk, Refusal>
+) -> Result<LabelAsk, Refused<Refusal>>
     ensures { MatchResult result
-        (λ ask. (ask.tenant ≡ tenant) × (method_of ask.query ≡ method) × IsLabelAsk method body.now ask) (IsLabelFault method body.now) }
+        (λ ask. (ask.tenant ≡ tenant) × (method_of ask.query ≡ method) × IsLabelAsk method body.now ask)
+        (IfFault (IsLabelFault method body.now)) }
 {
     let object = match JsonObject::read_or_empty(alloc, body) {
         Ok(object) => object,
-        Err(JsonFault::NotObject) => return Err(Refusal::NotObject),
-        Err(JsonFault::Memory) => return Err(Refusal::Memory),
+        Err(JsonFault::NotObject) => return Err(Refused::Fault(Refusal::NotObject)),
+        Err(JsonFault::Memory) => return Err(Refused::Memory),
     };
     match method {
         LabelMethod::Names => names_ask(alloc, tenant, &object),
@@ -35,9 +38,13 @@ pub(crate) fn read_label_ask(
     }
 }
 
-fn names_ask(alloc: Global, tenant: Tenant, object: &JsonObject) -> Result<LabelAsk, Refusal>
+fn names_ask(
+    alloc: Global,
+    tenant: Tenant,
+    object: &JsonObject,
+) -> Result<LabelAsk, Refused<Refusal>>
     ensures { MatchResult result
-        (SaysLabelAsk LabelMethod.Names object.now tenant) (IsAskRefused LabelMethod.Names object.now) }
+        (SaysLabelAsk LabelMethod.Names object.now tenant) (IfFault (IsAskRefused LabelMethod.Names object.now)) }
 {
     let body = LabelNamesBody::of(alloc, object).map_err(refusal_of)?;
     label_ask(
@@ -50,9 +57,13 @@ fn names_ask(alloc: Global, tenant: Tenant, object: &JsonObject) -> Result<Label
     )
 }
 
-fn values_ask(alloc: Global, tenant: Tenant, object: &JsonObject) -> Result<LabelAsk, Refusal>
+fn values_ask(
+    alloc: Global,
+    tenant: Tenant,
+    object: &JsonObject,
+) -> Result<LabelAsk, Refused<Refusal>>
     ensures { MatchResult result
-        (SaysLabelAsk LabelMethod.Values object.now tenant) (IsAskRefused LabelMethod.Values object.now) }
+        (SaysLabelAsk LabelMethod.Values object.now tenant) (IfFault (IsAskRefused LabelMethod.Values object.now)) }
 {
     let body = LabelValuesBody::of(alloc, object).map_err(refusal_of)?;
     let query = LabelQuery::Values(Name::from_text(alloc, body.name)?);
@@ -66,9 +77,13 @@ fn values_ask(alloc: Global, tenant: Tenant, object: &JsonObject) -> Result<Labe
     )
 }
 
-fn series_ask(alloc: Global, tenant: Tenant, object: &JsonObject) -> Result<LabelAsk, Refusal>
+fn series_ask(
+    alloc: Global,
+    tenant: Tenant,
+    object: &JsonObject,
+) -> Result<LabelAsk, Refused<Refusal>>
     ensures { MatchResult result
-        (SaysLabelAsk LabelMethod.Series object.now tenant) (IsAskRefused LabelMethod.Series object.now) }
+        (SaysLabelAsk LabelMethod.Series object.now tenant) (IfFault (IsAskRefused LabelMethod.Series object.now)) }
 {
     let body = SeriesBody::of(alloc, object).map_err(refusal_of)?;
     let query = LabelQuery::Series(names_of(alloc, &body.label_names)?);
@@ -90,14 +105,14 @@ fn label_ask(
     matchers: &[&str],
     from_ms: u64,
     until_ms: u64,
-) -> Result<LabelAsk, Refusal>
+) -> Result<LabelAsk, Refused<Refusal>>
     ensures { MatchResult result
         (IsAskOf tenant query (map (λ text. text.now) matchers.now) from_ms until_ms)
-        (IsAskOfRefused (map (λ text. text.now) matchers.now) from_ms until_ms) }
+        (IfFault (IsAskOfRefused (map (λ text. text.now) matchers.now) from_ms until_ms)) }
 {
     let selectors = read_selectors(alloc, matchers)?;
     if from_ms > until_ms {
-        return Err(Refusal::Window);
+        return Err(Refused::Fault(Refusal::Window));
     }
     Ok(LabelAsk {
         tenant,
@@ -108,13 +123,13 @@ fn label_ask(
     })
 }
 
-fn read_selectors(alloc: Global, texts: &[&str]) -> Result<Vec<Selector>, Refusal>
+fn read_selectors(alloc: Global, texts: &[&str]) -> Result<Vec<Selector>, Refused<Refusal>>
     ensures { MatchResult result
         (λ selectors. (length texts.now ≤ 16) × AreSelectors (map (λ text. text.now) texts.now) selectors.items)
-        (IsSelectorsRefused (map (λ text. text.now) texts.now)) }
+        (IfFault (IsSelectorsRefused (map (λ text. text.now) texts.now))) }
 {
     if texts.len() > MAX_SELECTORS {
-        return Err(Refusal::Selector(SelectorFault::TooMany));
+        return Err(Refused::Fault(Refusal::Selector(SelectorFault::TooMany)));
     }
     let mut selectors = Vec::new(alloc);
     for text in texts {
@@ -126,13 +141,13 @@ fn read_selectors(alloc: Global, texts: &[&str]) -> Result<Vec<Selector>, Refusa
     Ok(selectors)
 }
 
-fn selector_refusal(fault: SelectorFault) -> Refusal
-    ensures memory { fault ≡ SelectorFault.Memory → result ≡ Refusal.Memory }
-    ensures other { fault ≢ SelectorFault.Memory → result ≡ Refusal.Selector fault }
+fn selector_refusal(fault: SelectorFault) -> Refused<Refusal>
+    ensures memory { fault ≡ SelectorFault.Memory → result ≡ Refused.Memory }
+    ensures other { fault ≢ SelectorFault.Memory → result ≡ Refused.Fault (Refusal.Selector fault) }
 {
     match fault {
-        SelectorFault::Memory => Refusal::Memory,
-        fault => Refusal::Selector(fault),
+        SelectorFault::Memory => Refused::Memory,
+        fault => Refused::Fault(Refusal::Selector(fault)),
     }
 }
 
@@ -146,11 +161,11 @@ fn names_of(alloc: Global, texts: &[&str]) -> Result<Vec<Name>, AllocError>
     Ok(names)
 }
 
-fn refusal_of(fault: FieldFault) -> Refusal
+fn refusal_of(fault: FieldFault) -> Refused<Refusal>
     ensures { result ≡ refusal_of fault }
 {
     match fault {
-        FieldFault::WrongKind(number) => Refusal::WrongKind(number),
-        FieldFault::Memory => Refusal::Memory,
+        FieldFault::WrongKind(number) => Refused::Fault(Refusal::WrongKind(number)),
+        FieldFault::Memory => Refused::Memory,
     }
 }

@@ -1,10 +1,12 @@
 // What a request asks for, or its first refusal.
-ghost use Rattle.std.specs.Prelude.{◌≡◌, ◌≢◌, IfErr, IfOk, MatchResult, Some, option_map};
+ghost use Rattle.std.specs.Prelude.{◌≡◌, ◌≢◌, MatchResult, Some, option_map};
+ghost use Rattle.faults.specs.Answers.{IfFault};
+ghost use Rattle.api_replies.specs.Facts.{facts_of};
 ghost use Rattle.api_replies.specs.Forms.{is_coded, is_encoded, task_at, task_of, tenant_of};
-ghost use Rattle.api_replies.specs.Meanings.{IsMisrouted, IsPushedFault, IsRefused, IsTaskFault, IsWriteFault, Means, MeansTask, OrMemory};
+ghost use Rattle.api_replies.specs.Meanings.{IsMisrouted, IsPushedFault, IsRefusedOutright, IsTaskFault, IsUnserved, IsWriteFault, Means, MeansTask, Reaches};
 ghost use Rattle.ingest.specs.Ingests.{SaysProfiles};
 ghost use Rattle.json_push.specs.Pushed.{SaysPushed};
-ghost use Rattle.query_parameters.specs.Parameters.{pairs_of, parameters_of};
+ghost use Rattle.query_parameters.specs.Parameters.{parameters_of};
 
 use crate::ask::Ask;
 use crate::config::Config;
@@ -13,11 +15,12 @@ use crate::label_form::read_label_ask;
 use crate::refusal::Refusal;
 use crate::render_form::read_render;
 use crate::task::{LabelMethod, Task};
+use faults::Refused;
 use http_session::Request;
 use ingest::{IngestFault, read_ingest};
 use json_push::{PushFault, read_push};
 use profile_model::{Push, Tenant, wrong_tenant_byte};
-use query_parameters::{Parameter, read_parameters};
+use query_parameters::read_parameters;
 use routes::{Found, Route};
 use std::alloc::Global;
 
@@ -33,9 +36,22 @@ pub(crate) fn meaning_of(
     alloc: Global,
     request: &Request,
     config: &Config,
-) -> Result<Meaning, Refusal>
+) -> Result<Meaning, Refused<Refusal>>
     ensures { MatchResult result
-        (Means config.now.single_tenant request.now) (IsRefused config.now.single_tenant request.now) }
+        (Means (facts_of config.now) request.now) (IsUnserved (facts_of config.now) request.now) }
+{
+    let (task, name) = judge(request, config)?;
+    match Tenant::read(alloc, name) {
+        Ok(tenant) => meaning_of_task(alloc, request, task, tenant),
+        Err(_) => Err(Refused::Memory),
+    }
+}
+
+// The task and the tenant's name, where nothing refuses the request before its parameters and its body.
+fn judge<'r>(request: &'r Request, config: &Config) -> Result<(Task, &'r [u8]), Refusal>
+    ensures { MatchResult result
+        (λ judged. Reaches (facts_of config.now) request.now judged.0 judged.1.now)
+        (IsRefusedOutright (facts_of config.now) request.now) }
 {
     let task = task_at(request, config)?;
     let Some(name) = tenant_name(request, config) else {
@@ -50,10 +66,7 @@ pub(crate) fn meaning_of(
     if request.asked().is_some() {
         return Err(Refusal::Unbuilt);
     }
-    match Tenant::read(alloc, name) {
-        Ok(tenant) => meaning_of_task(alloc, request, task, tenant),
-        Err(_) => Err(Refusal::Memory),
-    }
+    Ok((task, name))
 }
 
 // What the method and the path name, where it is built.
@@ -90,8 +103,8 @@ fn meaning_of_task(
     request: &Request,
     task: Task,
     tenant: Tenant,
-) -> Result<Meaning, Refusal>
-    ensures { MatchResult result (MeansTask request.now task tenant) (OrMemory (IsTaskFault request.now task)) }
+) -> Result<Meaning, Refused<Refusal>>
+    ensures { MatchResult result (MeansTask request.now task tenant) (IfFault (IsTaskFault request.now task)) }
 {
     match task {
         Task::Ingest => {
@@ -103,7 +116,7 @@ fn meaning_of_task(
             Ok(Meaning::Write(PushForm::Json, push))
         }
         Task::Render => {
-            let parameters = parameters_of(alloc, request)?;
+            let parameters = read_parameters(alloc, request.query())?;
             let ask = read_render(alloc, tenant, &parameters, request.moment())?;
             Ok(Meaning::Query(Ask::Render(ask)))
         }
@@ -114,53 +127,43 @@ fn meaning_of_task(
     }
 }
 
-fn parameters_of(alloc: Global, request: &Request) -> Result<Vec<Parameter>, Refusal>
-    ensures ok { IfOk result (λ parameters. pairs_of parameters.items ≡ parameters_of request.now.query) }
-    ensures err { IfErr result (λ refusal. refusal ≡ Refusal.Memory) }
-{
-    match read_parameters(alloc, request.query()) {
-        Ok(parameters) => Ok(parameters),
-        Err(_) => Err(Refusal::Memory),
-    }
-}
-
-fn read_ingested(alloc: Global, request: &Request, tenant: Tenant) -> Result<Push, Refusal>
+fn read_ingested(alloc: Global, request: &Request, tenant: Tenant) -> Result<Push, Refused<Refusal>>
     ensures { MatchResult result
         (λ push. (push.tenant ≡ tenant) × SaysProfiles (parameters_of request.now.query) request.now.body request.now.moment push.profiles)
-        (OrMemory (IsWriteFault request.now)) }
+        (IfFault (IsWriteFault request.now)) }
 {
-    let parameters = parameters_of(alloc, request)?;
+    let parameters = read_parameters(alloc, request.query())?;
     match read_ingest(alloc, tenant, &parameters, request.body(), request.moment()) {
         Ok(push) => Ok(push),
         Err(fault) => Err(ingest_refusal(fault)),
     }
 }
 
-fn ingest_refusal(fault: IngestFault) -> Refusal
-    ensures memory { fault ≡ IngestFault.Memory → result ≡ Refusal.Memory }
-    ensures other { fault ≢ IngestFault.Memory → result ≡ Refusal.Ingest fault }
+fn ingest_refusal(fault: IngestFault) -> Refused<Refusal>
+    ensures memory { fault ≡ IngestFault.Memory → result ≡ Refused.Memory }
+    ensures other { fault ≢ IngestFault.Memory → result ≡ Refused.Fault (Refusal.Ingest fault) }
 {
     match fault {
-        IngestFault::Memory => Refusal::Memory,
-        fault => Refusal::Ingest(fault),
+        IngestFault::Memory => Refused::Memory,
+        fault => Refused::Fault(Refusal::Ingest(fault)),
     }
 }
 
-fn read_pushed(alloc: Global, request: &Request, tenant: Tenant) -> Result<Push, Refusal>
+fn read_pushed(alloc: Global, request: &Request, tenant: Tenant) -> Result<Push, Refused<Refusal>>
     ensures { MatchResult result
         (λ push. (push.tenant ≡ tenant) × SaysPushed request.now.body request.now.moment push.profiles)
-        (OrMemory (IsPushedFault request.now)) }
+        (IfFault (IsPushedFault request.now)) }
 {
     match read_push(alloc, tenant, request.body(), request.moment()) {
         Ok(push) => Ok(push),
-        Err(PushFault::Memory) => Err(Refusal::Memory),
-        Err(fault) => Err(Refusal::Push(fault)),
+        Err(PushFault::Memory) => Err(Refused::Memory),
+        Err(fault) => Err(Refused::Fault(Refusal::Push(fault))),
     }
 }
 
 // The bytes of the tenant's name.
 fn tenant_name<'r>(request: &'r Request, config: &Config) -> Option<&'r [u8]>
-    ensures { option_map (λ name. name.now) result ≡ tenant_of config.now.single_tenant request.now }
+    ensures { option_map (λ name. name.now) result ≡ tenant_of (facts_of config.now) request.now }
 {
     if config.single_tenant {
         Some(b"anonymous")

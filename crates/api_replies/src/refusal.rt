@@ -6,13 +6,13 @@ ghost use Rattle.api_replies.specs.Refusals.{code_of, folded_status, ingest_stat
 
 use crate::fault_body::{named, placed};
 use arrayvec::ArrayVec;
+use faults::Refused;
 use folded_reader::FoldedFault;
 use http_session::{Allow, BadRequest, Body, Reply, Status, Text};
 use ingest::IngestFault;
 use json_push::PushFault;
 use pprof_codec::PprofFault;
 use selector::SelectorFault;
-use std::alloc::{AllocError, AllocFailed};
 
 /// Why a request isn't served.
 #[derive(Clone, Copy, Debug, PartialEq, Eq)]
@@ -42,7 +42,6 @@ pub(crate) enum Refusal {
     NotObject,
     /// The number of a field that is of a wrong kind.
     WrongKind(u64),
-    Memory,
 }
 
 impl Refusal {
@@ -63,7 +62,6 @@ impl Refusal {
             ),
             Refusal::Ingest(fault) => ingest_reply(fault, now, close),
             Refusal::Push(fault) => push_reply(fault, now, close),
-            Refusal::Memory => memory_reply(now, close),
             fault => reading_reply(Status::BadRequest, fault.code(), &fault.place(), now, close),
         }
     }
@@ -246,22 +244,12 @@ fn refused(status: Status, body: Body, now: u64, close: bool) -> Reply
     }
 }
 
-impl From<AllocError> for Refusal {
-    ghost use Rattle.api_replies.specs.declared.refusal.Refusal.TheVariants.{Memory};
+impl From<Refusal> for Refused<Refusal> {
+    ghost use Rattle.faults.specs.declared.refused.Refused.TheVariants.{Fault};
 
-    ghost from_gives = { λ _ refusal. refusal ≡ Memory };
+    ghost from_gives = { λ refusal refused. refused ≡ Fault refusal };
 
-    fn from(_error: AllocError) -> Refusal {
-        Refusal::Memory
-    }
-}
-
-impl<T: Drop> From<AllocFailed<T>> for Refusal {
-    ghost use Rattle.api_replies.specs.declared.refusal.Refusal.TheVariants.{Memory};
-
-    ghost from_gives = { λ _ refusal. refusal ≡ Memory };
-
-    fn from(_error: AllocFailed<T>) -> Refusal {
-        Refusal::Memory
+    fn from(refusal: Refusal) -> Refused<Refusal> {
+        Refused::Fault(refusal)
     }
 }

@@ -1,10 +1,12 @@
 // What the parameters of a render ask for.
 ghost use Rattle.std.specs.Prelude.{◌≡◌, MatchOption, MatchResult, option_map};
+ghost use Rattle.faults.specs.Answers.{IfFault};
 ghost use Rattle.query_parameters.specs.Parameters.{pairs_of};
 ghost use Rattle.api_replies.specs.Renders.{HasQuery, IsBound, IsNoBound, IsQueryFault, IsRenderAsk, IsRenderFault, asks_for_folded, is_said};
 
 use crate::ask::RenderAsk;
 use crate::refusal::Refusal;
+use faults::Refused;
 use profile_model::Tenant;
 use query_parameters::{Parameter, first_value, read_time};
 use selector::{Query, SelectorFault};
@@ -19,21 +21,21 @@ pub(crate) fn read_render(
     tenant: Tenant,
     parameters: &[Parameter],
     moment_ms: u64,
-) -> Result<RenderAsk, Refusal>
+) -> Result<RenderAsk, Refused<Refusal>>
     ensures { MatchResult result
         (λ ask. (ask.tenant ≡ tenant) × IsRenderAsk (pairs_of parameters.now) moment_ms ask)
-        (IsRenderFault (pairs_of parameters.now) moment_ms) }
+        (IfFault (IsRenderFault (pairs_of parameters.now) moment_ms)) }
 {
     let query = read_query(alloc, parameters)?;
     let earliest = moment_ms.saturating_sub(HOUR_MS);
     let Some(from_ms) = bound_of(first_value(parameters, "from"), earliest, moment_ms) else {
-        return Err(Refusal::From);
+        return Err(Refused::Fault(Refusal::From));
     };
     let Some(until_ms) = bound_of(first_value(parameters, "until"), moment_ms, moment_ms) else {
-        return Err(Refusal::Until);
+        return Err(Refused::Fault(Refusal::Until));
     };
     if from_ms > until_ms {
-        return Err(Refusal::Window);
+        return Err(Refused::Fault(Refusal::Window));
     }
     Ok(RenderAsk {
         tenant,
@@ -43,19 +45,19 @@ pub(crate) fn read_render(
     })
 }
 
-fn read_query(alloc: Global, parameters: &[Parameter]) -> Result<Query, Refusal>
-    ensures { MatchResult result (HasQuery (pairs_of parameters.now)) (IsQueryFault (pairs_of parameters.now)) }
+fn read_query(alloc: Global, parameters: &[Parameter]) -> Result<Query, Refused<Refusal>>
+    ensures { MatchResult result (HasQuery (pairs_of parameters.now)) (IfFault (IsQueryFault (pairs_of parameters.now))) }
 {
     if !asks_for_folded(parameters) {
-        return Err(Refusal::Unbuilt);
+        return Err(Refused::Fault(Refusal::Unbuilt));
     }
     let Some(text) = first_value(parameters, "query") else {
-        return Err(Refusal::NoQuery);
+        return Err(Refused::Fault(Refusal::NoQuery));
     };
     match Query::read(alloc, text) {
         Ok(query) => Ok(query),
-        Err(SelectorFault::Memory) => Err(Refusal::Memory),
-        Err(fault) => Err(Refusal::Selector(fault)),
+        Err(SelectorFault::Memory) => Err(Refused::Memory),
+        Err(fault) => Err(Refused::Fault(Refusal::Selector(fault))),
     }
 }
 

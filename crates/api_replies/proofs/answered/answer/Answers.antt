@@ -1,14 +1,26 @@
-use Rattle.std.proofs.Common.{inl}
+use Rattle.std.proofs.Common.{inl, inr}
+use Rattle.api_replies.specs.Facts.{facts_of}
 use Rattle.api_replies.proofs.AnswerLemmas.{query_answered}
 use Rattle.api_replies.proofs.answered.answer.Goals as goal
 
 pub returns-in-Ok-Query : goal.returns-in-Ok-Query
 returns-in-Ok-Query c = record {
   answer =
-      query_answered c.args.config.now.single_tenant c.args.request.now c.args.history.now c.in-Ok-Query.ask c.answer_query.result
+      query_answered (facts_of c.args.config.now) c.args.request.now c.args.history.now c.in-Ok-Query.ask c.answer_query.result
       (rw c.in-Ok-Query.field-0-is at c.in-Ok-Query.ensures) c.answer_query.ensures;
 }
 
-pub returns-in-Err : goal.returns-in-Err
-returns-in-Err c =
-    record { answer = inl (c.in-Err.refusal, c.in-Err.ensures, rw (c.moment.ensures, c.close.ensures) at c.reply.ensures) }
+pub returns-in-Err-Fault : goal.returns-in-Err-Fault
+returns-in-Err-Fault c =
+    let is = c.in-Err-Fault.field-0-is in record {
+      answer = inl (inl (c.in-Err-Fault.refusal, rw is at c.in-Err-Fault.ensures, rw (c.moment.ensures, c.close.ensures, is) at c.reply.ensures));
+    }
+
+pub returns-in-Err-Memory : goal.returns-in-Err-Memory
+returns-in-Err-Memory c = record {
+  answer =
+      inr (
+        rw c.in-Err-Memory.field-0-is at c.in-Err-Memory.ensures,
+        rw (c.moment-in-Err-Memory.ensures, c.close-in-Err-Memory.ensures) at c.memory_reply.ensures,
+      );
+}

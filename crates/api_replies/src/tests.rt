@@ -2,7 +2,7 @@
 use crate::{
     Answered, Config, FirstVerdict, PushForm, acknowledge, answer, closing_reply, memory_reply,
 };
-use http_session::{BadRequest, NextRequest, Reader, Request, Status, Text};
+use http_session::{BadRequest, NextRequest, Reader, Reply, Request, Status, Text};
 use link_trait::MemoryLink;
 use routes::Routes;
 use std::alloc::Global;
@@ -33,32 +33,63 @@ fn answered(alloc: Global, text: &str) -> Result<Option<Answered>, Fail> {
     }
 }
 
+fn says(reply: &Reply, status: Status, front: Option<u64>, body: &str) -> bool {
+    reply.status == status && reply.front == front && reply.body.as_slice() == body.as_bytes()
+}
+
+// Whether these bytes are answered so.
+fn replies(
+    alloc: Global,
+    text: &str,
+    status: Status,
+    front: Option<u64>,
+    body: &str,
+) -> Result<bool, Fail> {
+    match answered(alloc, text)? {
+        Some(Answered::Reply(reply)) => Ok(says(&reply, status, front, body)),
+        _ => Ok(false),
+    }
+}
+
+// Whether these bytes are an ingest of this tenant and this sum.
+fn ingests(alloc: Global, text: &str, tenant: &str, total: u128) -> Result<bool, Fail> {
+    match answered(alloc, text)? {
+        Some(Answered::Push(PushForm::Ingest, push)) => {
+            Ok(push.tenant.as_bytes() == tenant.as_bytes() && push.total() == total)
+        }
+        _ => Ok(false),
+    }
+}
+
 #[test]
 fn a_push_is_read(rt: HostRuntime) -> Result<(), Fail> {
     let ingest =
         "POST /ingest?name=app HTTP/1.1\r\nX-Scope-OrgID: t1\r\nContent-Length: 25\r\n\r\nmain;a 3\nmain;b 5\nmain 2\n";
-    let Some(Answered::Push(form, push)) = answered(rt.alloc(), ingest)? else {
-        assert!(rt; false);
-        return Ok(());
-    };
-    assert_eq!(rt; form, PushForm::Ingest);
-    assert_eq!(rt; push.total(), 10);
-    assert_eq!(rt; push.tenant.as_bytes(), b"t1".as_slice());
+    assert!(rt; ingests(rt.alloc(), ingest, "t1", 10)?);
     Ok(())
 }
 
 #[test]
-fn a_query_before_any_push_is_answered_with_nothing(rt: HostRuntime) -> Result<(), Fail> {
-    let query =
+fn queries_before_any_push_are_answered_with_nothing(rt: HostRuntime) -> Result<(), Fail> {
+    let render =
         "GET /pyroscope/render?query=process_cpu%3Asamples%3Acount%3Acpu%3Ananoseconds&format=folded HTTP/1.1\r\nX-Scope-OrgID: t1\r\n\r\n";
-    let Some(Answered::Reply(reply)) = answered(rt.alloc(), query)? else {
-        assert!(rt; false);
-        return Ok(());
-    };
-    assert_eq!(rt; reply.status, Status::Ok);
-    assert_eq!(rt; reply.front, Some(0));
-    assert_eq!(rt; reply.body.as_slice().len(), 0);
+    assert!(rt; replies(rt.alloc(), render, Status::Ok, Some(0), "")?);
+    let names = "POST /querier.v1.QuerierService/LabelNames HTTP/1.1\r\nX-Scope-OrgID: t1\r\n\r\n";
+    assert!(rt; replies(rt.alloc(), names, Status::Ok, Some(0), "{\"names\":[]}")?);
     Ok(())
+}
+
+// Whether a verdict is told so.
+fn tells(
+    verdict: FirstVerdict,
+    form: PushForm,
+    status: Status,
+    text: Text,
+    front: Option<u64>,
+    body: &str,
+) -> bool {
+    let reply = acknowledge(verdict, form, 5, true);
+    reply.now == 5 && reply.close && reply.text == text && says(&reply, status, front, body)
 }
 
 #[test]
@@ -69,79 +100,81 @@ fn a_push_over_the_limit_is_told_the_three_numbers(rt: HostRuntime) {
         limit: 10,
         front: 1,
     };
-    let reply = acknowledge(verdict, PushForm::Ingest, 1_700_000_000_000, false);
-    assert_eq!(rt;
-        reply.body.as_slice(),
-        b"{\"asked\":1,\"fault\":\"limit\",\"kept\":10,\"limit\":10}".as_slice()
+    let body = "{\"asked\":1,\"fault\":\"limit\",\"kept\":10,\"limit\":10}";
+    assert!(rt;
+        tells(
+            verdict,
+            PushForm::Ingest,
+            Status::UnprocessableContent,
+            Text::Json,
+            Some(1),
+            body
+        )
     );
-    assert_eq!(rt; reply.status, Status::UnprocessableContent);
-    assert_eq!(rt; reply.front, Some(1));
 }
 
 #[test]
 fn a_kept_push_is_told_its_front(rt: HostRuntime) {
-    let reply = acknowledge(FirstVerdict::Kept(7), PushForm::Ingest, 5, true);
-    assert_eq!(rt; reply.status, Status::Ok);
-    assert_eq!(rt; reply.body.as_slice().len(), 0);
-    assert_eq!(rt; reply.front, Some(7));
-    assert_eq!(rt; reply.now, 5);
-    assert!(rt; reply.close);
-    let reply = acknowledge(FirstVerdict::Kept(8), PushForm::Json, 5, false);
-    assert_eq!(rt; reply.body.as_slice(), b"{}".as_slice());
-    assert_eq!(rt; reply.text, Text::Json);
-    assert_eq!(rt; reply.front, Some(8));
+    let (ingest, push) = (FirstVerdict::Kept(7), FirstVerdict::Kept(8));
+    assert!(rt;
+        tells(
+            ingest,
+            PushForm::Ingest,
+            Status::Ok,
+            Text::Plain,
+            Some(7),
+            ""
+        )
+    );
+    assert!(rt; tells(push, PushForm::Json, Status::Ok, Text::Json, Some(8), "{}"));
 }
 
 #[test]
 fn want_of_memory_is_told(rt: HostRuntime) {
-    for reply in [
-        acknowledge(FirstVerdict::Memory, PushForm::Json, 5, false),
-        memory_reply(5, false),
-    ] {
-        assert_eq!(rt; reply.status, Status::InternalServerError);
-        assert_eq!(rt; reply.body.as_slice(), b"{\"fault\":\"memory\"}".as_slice());
-        assert_eq!(rt; reply.front, None);
+    let (status, body) = (Status::InternalServerError, "{\"fault\":\"memory\"}");
+    assert!(rt;
+        tells(
+            FirstVerdict::Memory,
+            PushForm::Json,
+            status,
+            Text::Json,
+            None,
+            body
+        )
+    );
+    assert!(rt; says(&memory_reply(5, false), status, None, body));
+}
+
+// Whether the last reply of a connection says so.
+fn closes(bad: BadRequest, status: Status, body: &str) -> bool {
+    match closing_reply(bad, 5) {
+        Some(reply) => reply.close && says(&reply, status, None, body),
+        None => false,
     }
 }
 
 #[test]
 fn a_last_reply_says_why(rt: HostRuntime) {
-    for (bad, status, body) in [
-        (
+    assert!(rt;
+        closes(
             BadRequest::Malformed,
             Status::BadRequest,
-            "{\"fault\":\"H1\"}",
-        ),
-        (
+            "{\"fault\":\"H1\"}"
+        )
+    );
+    assert!(rt;
+        closes(
             BadRequest::HeadTooLarge,
             Status::HeadersTooLarge,
-            "{\"fault\":\"H2\"}",
-        ),
-        (
+            "{\"fault\":\"H2\"}"
+        )
+    );
+    assert!(rt;
+        closes(
             BadRequest::BodyTooLarge,
             Status::ContentTooLarge,
-            "{\"fault\":\"H3\"}",
-        ),
-    ] {
-        let Some(reply) = closing_reply(bad, 5) else {
-            assert!(rt; false);
-            return;
-        };
-        assert_eq!(rt; reply.status, status);
-        assert_eq!(rt; reply.body.as_slice(), body.as_bytes());
-        assert!(rt; reply.close);
-    }
+            "{\"fault\":\"H3\"}"
+        )
+    );
     assert!(rt; closing_reply(BadRequest::CutOff, 5).is_none());
-}
-
-#[test]
-fn labels_of_no_push_are_an_empty_list(rt: HostRuntime) -> Result<(), Fail> {
-    let ask = "POST /querier.v1.QuerierService/LabelNames HTTP/1.1\r\nX-Scope-OrgID: t1\r\n\r\n";
-    let Some(Answered::Reply(reply)) = answered(rt.alloc(), ask)? else {
-        assert!(rt; false);
-        return Ok(());
-    };
-    assert_eq!(rt; reply.status, Status::Ok);
-    assert_eq!(rt; reply.body.as_slice(), b"{\"names\":[]}".as_slice());
-    Ok(())
 }

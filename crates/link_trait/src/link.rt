@@ -1,5 +1,5 @@
 //! One connection, as the reader and the writer see it.
-ghost use Rattle.std.specs.Prelude.{◌≡◌, ℕ, ◌≤◌, ◌<◌, length, IfOk, Option, Bool, true, false};
+ghost use Rattle.std.specs.Prelude.{◌≡◌, ℕ, ◌≤◌, ◌<◌, length, IfOk, OnOk, Option, Bool, true, false};
 ghost use Rattle.link_trait.specs.Link.{Told, Goes, ReadStep, WriteStep, Stays, HasCause};
 
 /// The last moment: the end of the year 9999, in milliseconds since 1970.
@@ -9,7 +9,7 @@ pub const LAST_MOMENT: u64 = 253_402_300_799_999;
 #[derive(Clone, Copy, Debug, PartialEq, Eq)]
 pub struct Failed;
 
-/// One connection. No read or write follows `end`.
+/// One connection. No read or write follows `end`, or one that failed.
 pub trait Link {
     /// What the link tells of its bytes and its moment, and none where it doesn't, as a real stream.
     ghost told: { Self → Option Told };
@@ -17,14 +17,14 @@ pub trait Link {
     /// How often a read or a write has failed.
     ghost faults: { Self → ℕ };
 
-    /// Whether it wasn't closed yet.
+    /// Whether it may be read and written: it wasn't closed yet, and no read or write of it failed.
     ghost is_open: { Self → Bool };
 
     /// Reads some bytes to the front of `into`, and says how many. 0 for a room that isn't empty is
     /// the end of input.
     fn read(&mut self, into: &mut [u8]) -> Result<usize, Failed>
         requires open { is_open self.old ≡ true }
-        ensures open { is_open self.new ≡ true }
+        ensures open { OnOk result (is_open self.new ≡ true) }
         ensures bound { IfOk result (λ count. count ≤ length into.old) }
         ensures told { Goes (ReadStep result (length into.old) into.new)
             (told self.old) (told self.new) }
@@ -33,7 +33,7 @@ pub trait Link {
     /// Writes the first bytes of `from`, and says how many.
     fn write(&mut self, from: &[u8]) -> Result<usize, Failed>
         requires open { is_open self.old ≡ true }
-        ensures open { is_open self.new ≡ true }
+        ensures open { OnOk result (is_open self.new ≡ true) }
         ensures bound { IfOk result (λ count. count ≤ length from.now) }
         ensures moves { IfOk result (λ count. 0 < length from.now → 0 < count) }
         ensures told { Goes (WriteStep result from.now) (told self.old) (told self.new) }

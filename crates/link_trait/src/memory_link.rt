@@ -1,6 +1,6 @@
 //! A link over memory, which tells all that it does.
-ghost use Rattle.std.specs.Prelude.{◌≡◌, ◌+◌, ◌-◌, ◌^◌, ◌≤◌, ◌<◌, ◌↔◌, [], min, length, true, Contains, IfOk, IsErr, OnOk, OnErr};
-ghost use Rattle.link_trait.specs.Link.{Goes, ReadStep, WriteStep, HasCause, faults_of};
+ghost use Rattle.std.specs.Prelude.{◌≡◌, ◌+◌, ◌-◌, ◌^◌, ◌≤◌, ◌<◌, ◌↔◌, [], min, length, true, Contains, IfOk, IsErr, OnOk, OnErr, false};
+ghost use Rattle.link_trait.specs.Link.{Goes, ReadStep, WriteStep, HasCause, faults_of, Stays};
 
 use crate::link::{Failed, LAST_MOMENT, Link};
 use std::alloc::Global;
@@ -197,11 +197,23 @@ impl Link for MemoryLink {
         }
     }
 
-    fn moment(&mut self) -> u64 {
+    fn moment(&mut self) -> u64
+        ensures open { self.new.open ≡ self.old.open }
+        ensures last { result ≤ LAST_MOMENT }
+        ensures told { Goes (λ old new. (new ≡ old) × (result ≡ old.moment))
+            (Some self.old.told) (Some self.new.told) }
+        ensures faults { faults_of self.new ≡ faults_of self.old }
+        ensures same { self.new ≡ self.old }
+    {
         self.moment
     }
 
-    fn end(&mut self) {
+    fn end(&mut self)
+        ensures open { self.new.open ≡ false }
+        ensures told { Goes Stays (Some self.old.told) (Some self.new.told) }
+        ensures faults { faults_of self.new ≡ faults_of self.old }
+        ensures closed { self.new ≡ record self.old { «open» = false } }
+    {
         self.open = false;
     }
 

@@ -1,12 +1,15 @@
 -- What came while a head was taken.
-use Rattle.std.proofs.Common.{◌≡◌, ℕ, ◌-◌, ◌<◌, ◌≤◌, min, take, drop, arith, ⊎_elim, List, [], ◌∷◌, ◌++◌, length, refl, sym, subst, ap, ◌∙◌, append_assoc, append-nil, Ok, Err}
+use Rattle.std.proofs.Common.{◌≡◌, ℕ, ◌-◌, ◌<◌, ◌≤◌, min, take, drop, arith, ⊎_elim, List, [], ◌∷◌, ◌++◌, length, refl, sym, subst, ap, ◌∙◌, append_assoc, append-nil, Ok, Err, inl}
 use Rattle.std.proofs.lemmas.Bool.{cases_lt}
 use Rattle.std.proofs.lemmas.List.{take-append-drop, nil_from_length, drop_all, take_all}
 use Rattle.link_trait.specs.Link.{Told}
 use Rattle.http_session.specs.Pulled.{Pulled, FillStep}
 use Rattle.http_session.specs.Heads.{IsUnfinished}
 use Rattle.http_session.specs.Steps.{StopsAt, HeadStep}
+use Rattle.link_trait.specs.declared.link.Failed.{Failed}
+use Rattle.http_session.specs.Takes.{IsPartial}
 use Rattle.http_session.specs.declared.reader.Stop.{Stop}
+use Rattle.http_session.specs.declared.reader.Stop.TheVariants as stop
 use Rattle.link_trait.proofs.GoesLemmas.{took_then}
 
 pub pulled_then : (x y z : List ℕ) (a b c : Told) → Pulled x y a b → Pulled y z b c → Pulled x z a c
@@ -31,6 +34,14 @@ pub stopped : (T : Type 0) (old held new : List ℕ) (stop : Stop) (a b c : Told
 stopped T old held new stop a b c open_ stops pulled fill =
     let none = took_none held new b c fill in
     (pulled_then old held new a b c pulled fill.0, stops c (subst IsUnfinished (sym none.0) open_) none.1)
+
+-- the link failed before a whole head
+pub failed : (T : Type 0) (old held new : List ℕ) (count : ℕ) (e : Failed) (a b c : Told) → IsUnfinished held → new ≡ held →
+    Pulled old held a b → FillStep (Err e) held new b c → HeadStep {T = T} (Err (stop.LinkFault count)) old new a c
+failed T old held new count e a b c open_ same pulled stays =
+    let P : Told → Type 0 = λ t. Pulled old held a t in
+    let Q : List ℕ → Type 0 = λ xs. Pulled old xs a c × IsPartial xs in
+    subst Q (sym same) (subst P (sym stays) pulled, inl open_)
 
 -- a body of which some bytes were held and the rest came
 pub body_came : (old rest piece : List ℕ) (count size : ℕ) → count ≡ min size (length old) → length rest ≡ size - count → piece ≡ rest →

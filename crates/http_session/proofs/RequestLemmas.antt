@@ -10,7 +10,7 @@ use Rattle.http_session.specs.HeadRead.{Covers, IsHeadAt}
 use Rattle.http_session.specs.Heads.{BeginsWithHead, headers_of}
 use Rattle.http_session.specs.Framing.{sized, result_map, body_length_of}
 use Rattle.http_session.specs.Asked.{Asked, asked_of}
-use Rattle.http_session.specs.Takes.{IsBad}
+use Rattle.http_session.specs.Takes.{IsBad, IsPartial}
 use Rattle.http_session.specs.Answers.{IsBadAt}
 use Rattle.http_session.specs.Steps.{StopsAt, BodyStep, RequestStep, IsBodyOf}
 use Rattle.http_session.specs.declared.bad_request.BadRequest.{BadRequest}
@@ -38,8 +38,13 @@ body_stops T view number size old held after new head e a b c pulled begins long
         let bytes : held ++ body.0 ≡ old ++ (pulled.0 ++ body.0) = ap (λ (xs : List ℕ). xs ++ body.0) pulled.2 ∙ append_assoc old pulled.0 body.0 in
         let Q : List ℕ → Type 0 = λ xs. IsBad xs why.CutOff in
         subst P (sym is) (subst Q bytes (inr (head, after ++ body.0, sized size, head_stays held body.0 head after begins, ap (result_map sized) long, short)), λ cut. none)
-    by (stop.LinkFault count) any = tt
-    by stop.Memory any = tt
+    by (stop.LinkFault count) short =
+        let bytes : held ++ body.0 ≡ old ++ (pulled.0 ++ body.0) = ap (λ (xs : List ℕ). xs ++ body.0) pulled.2 ∙ append_assoc old pulled.0 body.0 in
+        subst IsPartial bytes (inr (head, after ++ body.0, sized size, head_stays held body.0 head after begins, ap (result_map sized) long, short))
+    by stop.Memory any =
+        let bytes : held ++ body.0 ≡ old ++ (pulled.0 ++ body.0) = ap (λ (xs : List ℕ). xs ++ body.0) pulled.2 ∙ append_assoc old pulled.0 body.0 in
+        let P : List ℕ → Type 0 = λ xs. (one : RequestHead) × (rest : List ℕ) × BeginsWithHead xs one rest in
+        subst P bytes (head, after ++ body.0, head_stays held body.0 head after begins)
 
 -- a body came whole
 pub request_whole : (T : Type 0) (view : T → List ℕ) (number size moment : ℕ) (old held after new : List ℕ) (head : RequestHead) (body : T) (asked : Asked) (a b c d : Told) →

@@ -12,3 +12,9 @@ abbrev pub is_ended : State → Bool
 is_ended Fresh = false
 is_ended (Open buffer) = false
 is_ended Ended = true
+
+-- no request was asked for yet
+abbrev pub is_fresh : State → Bool
+is_fresh Fresh = true
+is_fresh (Open buffer) = false
+is_fresh Ended = false

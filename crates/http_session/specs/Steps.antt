@@ -1,9 +1,11 @@
 -- The steps in which the reader takes a request: its head, its body, and the rest of that.
-use Rattle.std.specs.Prelude.{◌≡◌, ℕ, ◌<◌, List, [], ◌++◌, length, Result, Ok, Err, IfErr}
+use Rattle.std.specs.Prelude.{◌≡◌, ℕ, ◌<◌, List, [], ◌++◌, length, Result, Ok, Err, IfErr, Bool, true}
 use Rattle.link_trait.specs.Link.{Told, Took, Rose}
 use Rattle.http_session.specs.Pulled.{Pulled}
+use Rattle.httparse.specs.Grammar.{RequestHead}
+use Rattle.http_session.specs.Heads.{BeginsWithHead}
 use Rattle.http_session.specs.Asked.{Asked}
-use Rattle.http_session.specs.Takes.{IsWhole}
+use Rattle.http_session.specs.Takes.{IsWhole, IsPartial}
 use Rattle.http_session.specs.Answers.{IsBadAt, IsEndAt}
 use Rattle.http_session.specs.declared.bad_request.BadRequest.TheVariants.{CutOff}
 use Rattle.http_session.specs.declared.reader.Stop.{Stop}
@@ -23,12 +25,19 @@ IsQuiet before now (stop.Bad bad) = now ≡ before
 IsQuiet before now (stop.LinkFault count) = Unit {0}
 IsQuiet before now stop.Memory = now ≡ before
 
+-- and, but for a fault, the link is open
+abbrev pub IsOpenAfter : Bool → Stop → Type 0
+IsOpenAfter is_open stop.End = is_open ≡ true
+IsOpenAfter is_open (stop.Bad bad) = is_open ≡ true
+IsOpenAfter is_open (stop.LinkFault count) = Unit {0}
+IsOpenAfter is_open stop.Memory = is_open ≡ true
+
 -- Why no request was taken from the bytes that came.
 abbrev pub StopsAt : List ℕ → Told → Stop → Type 0
 StopsAt bytes now stop.End = IsEndAt bytes now
 StopsAt bytes now (stop.Bad bad) = IsBadAt bytes now bad
-StopsAt bytes now (stop.LinkFault count) = Unit {0}
-StopsAt bytes now stop.Memory = Unit {0}
+StopsAt bytes now (stop.LinkFault count) = IsPartial bytes
+StopsAt bytes now stop.Memory = (head : RequestHead) × (rest : List ℕ) × BeginsWithHead bytes head rest
 
 -- the taking of a head leaves all that came in the buffer
 abbrev pub HeadStep : {T : Type 0} → Result T Stop → List ℕ → List ℕ → Told → Told → Type 0
@@ -39,7 +48,7 @@ abbrev pub IsBodyOf : {T : Type 0} → (T → List ℕ) → ℕ → List ℕ →
 IsBodyOf view size bytes new now (Ok body) = (bytes ≡ view body ++ new) × (length (view body) ≡ size)
 IsBodyOf view size bytes new now (Err stop.End) = ⊥
 IsBodyOf view size bytes new now (Err (stop.Bad bad)) = (bad ≡ CutOff) × (length bytes < size) × (now.to_come ≡ [])
-IsBodyOf view size bytes new now (Err (stop.LinkFault count)) = Unit {0}
+IsBodyOf view size bytes new now (Err (stop.LinkFault count)) = length bytes < size
 IsBodyOf view size bytes new now (Err stop.Memory) = Unit {0}
 
 -- the taking of a body
@@ -52,7 +61,7 @@ abbrev pub IsRestOf : {T : Type 0} → Result T Stop → List ℕ → List ℕ �
 IsRestOf (Ok done) piece rest now = piece ≡ rest
 IsRestOf (Err stop.End) piece rest now = ⊥
 IsRestOf (Err (stop.Bad bad)) piece rest now = (bad ≡ CutOff) × (length piece < length rest) × (now.to_come ≡ [])
-IsRestOf (Err (stop.LinkFault count)) piece rest now = Unit {0}
+IsRestOf (Err (stop.LinkFault count)) piece rest now = length piece < length rest
 IsRestOf (Err stop.Memory) piece rest now = ⊥
 
 -- the taking of the rest of a body

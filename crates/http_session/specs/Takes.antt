@@ -24,7 +24,14 @@ HasBadLength bytes bad =
 abbrev pub IsBetween : List ℕ → Type 0
 IsBetween bytes = (after_lines bytes ≡ []) × IsUnfinished bytes
 
--- a head that isn't finished, or a body that isn't
+-- the bytes are no whole request yet: a head that isn't finished, perhaps not begun, or a body that isn't
+abbrev pub IsPartial : List ℕ → Type 0
+IsPartial bytes =
+    IsUnfinished bytes
+    ⊎ ((head : RequestHead) × (rest : List ℕ) × (framing : Framing) × BeginsWithHead bytes head rest
+    × (framing_of (headers_of head) ≡ Ok framing) × IsCutBody framing rest)
+
+-- a head that is begun and isn't finished, or a body that isn't
 abbrev pub IsInside : List ℕ → Type 0
 IsInside bytes =
     ((after_lines bytes ≢ []) × IsUnfinished bytes)

@@ -1,5 +1,5 @@
 //! The bytes of a connection that were taken and belong to no request yet.
-ghost use Rattle.std.specs.Prelude.{◌≡◌, ◌+◌, ◌≤◌, ◌<◌, [], true, length, drop, OnErr, IfOk};
+ghost use Rattle.std.specs.Prelude.{◌≡◌, ◌+◌, ◌≤◌, ◌<◌, [], true, length, drop, OnErr, IfOk, OnOk};
 ghost use Rattle.link_trait.specs.Link.{HasCause, Goes};
 ghost use Rattle.http_session.specs.Pulled.{FillStep};
 
@@ -54,7 +54,7 @@ impl Buffer {
     pub(crate) fn fill<L: Link>(&mut self, link: &mut L) -> Result<usize, Failed>
         requires room { length self.old < 16384 }
         requires open { L.is_open link.old ≡ true }
-        ensures open { L.is_open link.new ≡ true }
+        ensures open { OnOk result (L.is_open link.new ≡ true) }
         ensures grows { IfOk result (λ count. length self.new ≡ length self.old + count) }
         ensures kept { OnErr result (self.new ≡ self.old) }
         ensures told { Goes (FillStep result self.old self.new) (L.told link.old) (L.told link.new) }

@@ -3,8 +3,8 @@ ghost use Rattle.std.specs.Prelude.{◌≡◌, ◌≢◌, ◌≤◌, ℕ, [], fa
 ghost use Rattle.httparse.specs.Grammar.{RequestHead};
 ghost use Rattle.link_trait.specs.Link.{Told, Goes, Rose};
 ghost use Rattle.http_session.specs.HeadRead.{IsHeadAt};
-ghost use Rattle.http_session.specs.Answers.{Continues, AnswerStep};
-ghost use Rattle.http_session.specs.Steps.{IsFaultOf, IsQuiet, StopsAt, HeadStep, BodyStep, RestStep, RequestStep};
+ghost use Rattle.http_session.specs.Answers.{Continues, AnswerStep, StaysOpen};
+ghost use Rattle.http_session.specs.Steps.{IsFaultOf, IsOpenAfter, IsQuiet, StopsAt, HeadStep, BodyStep, RestStep, RequestStep};
 ghost use Rattle.http_session.specs.Heads.{IsUnfinished};
 ghost use Rattle.http_session.specs.Asked.{Asked};
 
@@ -59,12 +59,12 @@ pub struct Reader {
 }
 
 impl Model for Reader {
-    ghost use Rattle.std.specs.Prelude.{◌≤◌};
+    ghost use Rattle.std.specs.Prelude.{◌≡◌, ◌≤◌, true};
     ghost use Rattle.http_session.specs.Waiting.{Waiting};
 
     ghost Value = { Waiting };
 
-    ghost use Rattle.http_session.specs.ReaderState.{held_in, is_ended};
+    ghost use Rattle.http_session.specs.ReaderState.{held_in, is_ended, is_fresh};
 
     ghost view = { λ a. record {
       held = held_in a.state;
@@ -72,7 +72,7 @@ impl Model for Reader {
       given = a.given;
     } };
 
-    ghost invariant = { λ a. a.given ≤ 1000000 };
+    ghost invariant = { λ a. (a.given ≤ 1000000) × (is_fresh a.state ≡ true → a.given ≡ 0) };
 }
 
 impl Reader {
@@ -89,8 +89,8 @@ impl Reader {
 
     /// The next request of the connection. After any answer but a request it answers `End`.
     pub fn next_request<L: Link>(&mut self, link: &mut L) -> NextRequest
-        requires open { L.is_open link.old ≡ true }
-        ensures open { L.is_open link.new ≡ true }
+        requires open { self.old.ended ≡ false → L.is_open link.old ≡ true }
+        ensures open { L.is_open link.old ≡ true → StaysOpen (L.is_open link.new) result }
         ensures fault { (count : ℕ) → result ≡ NextRequest.LinkFault count
             → Rose (L.faults link.old) (L.faults link.new) × (count ≡ L.faults link.new) }
         ensures count { L.faults link.old ≤ L.faults link.new }
@@ -134,7 +134,7 @@ fn take_request<L: Link>(
     link: &mut L,
 ) -> Result<Request, Stop>
     requires open { L.is_open link.old ≡ true }
-    ensures open { L.is_open link.new ≡ true }
+    ensures open { MatchResult result (λ _. L.is_open link.new ≡ true) (IsOpenAfter (L.is_open link.new)) }
     ensures count { L.faults link.old ≤ L.faults link.new }
     ensures quiet { MatchResult result (λ _. L.faults link.new ≡ L.faults link.old)
         (IsQuiet (L.faults link.old) (L.faults link.new)) }
@@ -169,7 +169,7 @@ fn take_head<L: Link>(
     link: &mut L,
 ) -> Result<RequestSpans, Stop>
     requires open { L.is_open link.old ≡ true }
-    ensures open { L.is_open link.new ≡ true }
+    ensures open { MatchResult result (λ _. L.is_open link.new ≡ true) (IsOpenAfter (L.is_open link.new)) }
     ensures count { L.faults link.old ≤ L.faults link.new }
     ensures quiet { MatchResult result (λ _. L.faults link.new ≡ L.faults link.old)
         (IsQuiet (L.faults link.old) (L.faults link.new)) }
@@ -216,7 +216,7 @@ fn take_body<L: Link>(
     link: &mut L,
 ) -> Result<Vec<u8>, Stop>
     requires open { L.is_open link.old ≡ true }
-    ensures open { L.is_open link.new ≡ true }
+    ensures open { MatchResult result (λ _. L.is_open link.new ≡ true) (IsOpenAfter (L.is_open link.new)) }
     ensures count { L.faults link.old ≤ L.faults link.new }
     ensures quiet { MatchResult result (λ _. L.faults link.new ≡ L.faults link.old)
         (IsQuiet (L.faults link.old) (L.faults link.new)) }
@@ -249,7 +249,7 @@ fn move_held(body: &mut [u8], buffer: &mut Buffer) -> usize
 // Reads from the link until the rest of a body is full.
 fn fill_rest<L: Link>(rest: &mut [u8], link: &mut L) -> Result<(), Stop>
     requires open { L.is_open link.old ≡ true }
-    ensures open { L.is_open link.new ≡ true }
+    ensures open { MatchResult result (λ _. L.is_open link.new ≡ true) (IsOpenAfter (L.is_open link.new)) }
     ensures count { L.faults link.old ≤ L.faults link.new }
     ensures quiet { MatchResult result (λ _. L.faults link.new ≡ L.faults link.old)
         (IsQuiet (L.faults link.old) (L.faults link.new)) }

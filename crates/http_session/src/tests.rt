@@ -70,16 +70,10 @@ fn two_requests_are_read_however_the_input_is_cut(rt: HostRuntime) -> Result<(),
             NextRequest::Request(request) => expect_second(&rt, &request),
             other => assert_eq!(rt; name_of(&other), "request", "cut at {cut}"),
         }
-        assert_eq!(rt;
-            name_of(&reader.next_request(&mut link)),
-            "end",
-            "cut at {cut}"
-        );
-        assert_eq!(rt;
-            name_of(&reader.next_request(&mut link)),
-            "end",
-            "cut at {cut}"
-        );
+        match reader.next_request(&mut link) {
+            NextRequest::End => {}
+            other => assert_eq!(rt; name_of(&other), "end", "cut at {cut}"),
+        }
     }
     Ok(())
 }

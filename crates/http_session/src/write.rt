@@ -22,7 +22,7 @@ pub struct LinkFault(pub u64);
 /// Writes a reply. After a fault a prefix of its bytes was given.
 pub fn write_reply<L: Link>(link: &mut L, reply: &Reply) -> Result<(), LinkFault>
     requires open { L.is_open link.old ≡ true }
-    ensures open { L.is_open link.new ≡ true }
+    ensures open { OnOk result (L.is_open link.new ≡ true) }
     ensures quiet { OnOk result (L.faults link.new ≡ L.faults link.old) }
     ensures told { Goes (WriteAll result (bytes_of_reply reply.entry.now))
         (L.told link.old) (L.told link.new) }
@@ -44,7 +44,7 @@ pub fn write_reply<L: Link>(link: &mut L, reply: &Reply) -> Result<(), LinkFault
 // Writes all of the bytes.
 fn write_whole<L: Link>(link: &mut L, bytes: &[u8]) -> Result<(), LinkFault>
     requires open { L.is_open link.old ≡ true }
-    ensures open { L.is_open link.new ≡ true }
+    ensures open { OnOk result (L.is_open link.new ≡ true) }
     ensures quiet { OnOk result (L.faults link.new ≡ L.faults link.old) }
     ensures told { Goes (WriteAll result bytes.now) (L.told link.old) (L.told link.new) }
     ensures count { L.faults link.old ≤ L.faults link.new }

@@ -11,7 +11,7 @@ loop-filled-preserved g c =
     let at : ℕ = c.loop-filled.filled in
     let size : length into ≡ length xs - at = omega (arith, c.read.auto.into, length-take (length xs - at) (drop at xs), length-drop at xs) in
     record {
-      opened = c.read.ensures.open;
+      opened = c.in-Ok.ensures.open;
       quiet = c.in-Ok.ensures.cause.quiet ∙ c.loop-filled.invariant.quiet;
       fits = (let bound : c.in-Ok.count ≤ length (take (length xs - at) (drop at xs)) = c.in-Ok.ensures.bound in omega (arith, bound, length_filled xs into at c.loop-filled.invariant.fits size, c.read.auto.into, size));
       told = goes_then (Took (take at xs)) (ReadStep (Ok c.in-Ok.count) (length (take (length xs - at) (drop at xs))) into) (Took _) _ _ _

@@ -5,7 +5,8 @@ use Rattle.http_session.specs.Pulled.{Pulled, FillStep}
 use Rattle.http_session.specs.Heads.{IsHeadTooLarge, IsUnfinished}
 use Rattle.http_session.specs.Steps.{HeadStep, StopsAt}
 use Rattle.link_trait.proofs.GoesLemmas.{goes_weaker, goes_then}
-use Rattle.http_session.proofs.ReaderLemmas.{stopped}
+use Rattle.http_session.proofs.ReaderLemmas.{failed, stopped}
+use Rattle.http_session.specs.declared.reader.Stop.TheVariants as stop
 use Rattle.http_session.proofs.reader.take_head.Goals as goal
 
 pub returns-in-TooLarge-clause-told : goal.returns-in-TooLarge-clause-told
@@ -27,3 +28,11 @@ returns-in-Ok-eq0-clause-told g c =
     goes_then (Pulled c.args.buffer.now held) (FillStep (Ok 0) held new) (HeadStep {T = RequestSpans} (Err c.unfinished.result) c.args.buffer.now new) _ _ _
     (λ a b d. stopped RequestSpans c.args.buffer.now held new c.unfinished.result a b d open_ (λ now. let P : List ℕ → Type 0 = λ xs. IsUnfinished xs → now.to_come ≡ [] → StopsAt xs now c.unfinished.result in subst P c.held-in-Ok-eq0.ensures.value (c.unfinished.ensures.stops now)))
     c.loop-spans.invariant.told fill
+
+pub returns-in-Err-clause-told : goal.returns-in-Err-clause-told
+returns-in-Err-clause-told g c =
+    let held = c.loop-spans.buffer in
+    let new = c.fill.new.self in
+    let open_ : IsUnfinished held = subst IsUnfinished c.held.ensures.value c.in-Unfinished.ensures in
+    goes_then (Pulled c.args.buffer.now held) (FillStep (Err c.in-Err.field-0) held new) (HeadStep {T = RequestSpans} (Err (stop.LinkFault c.faults.result)) c.args.buffer.now new) _ _ _
+    (λ a b d. failed RequestSpans c.args.buffer.now held new c.faults.result c.in-Err.field-0 a b d open_ c.in-Err.ensures.kept) c.loop-spans.invariant.told c.in-Err.ensures.told

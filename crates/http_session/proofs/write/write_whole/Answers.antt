@@ -10,7 +10,7 @@ loop-rest-preserved g c =
     let front = take c.in-Ok.count c.loop-rest.rest.now in
     let step = rw c.in-Ok.is at c.write.ensures.told in
     record {
-      opened = c.write.ensures.open;
+      opened = c.in-Ok.ensures.open;
       quiet = c.in-Ok.ensures.cause.quiet ∙ c.loop-rest.invariant.quiet;
       told = (
         told.0 ++ front,

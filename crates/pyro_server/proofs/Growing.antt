@@ -1,5 +1,5 @@
 -- The history only grows.
-use Rattle.std.proofs.Common.{◌≡◌, ◌++◌, ◌∙◌, Bool, List, [], ◌∷◌, refl, sym, ap, inl, inr, append-nil, append_assoc, true, arith, length-append}
+use Rattle.std.proofs.Common.{◌≡◌, ◌++◌, ◌∙◌, ℕ, List, [], ◌∷◌, refl, sym, ap, inl, inr, append-nil, append_assoc, true, arith, length-append}
 use Rattle.std.specs.Prelude.{nat_eq}
 use Rattle.std.specs.Cmp.Lexicographic.{pointwise, nat_list_eq_equiv}
 use Rattle.std.proofs.lemmas.List.Elements.{filter-append}
@@ -7,6 +7,7 @@ use Rattle.profile_model.specs.History.{pushes_of}
 use Rattle.http_session.specs.Asked.{Asked}
 use Rattle.http_session.specs.declared.reply.Reply.{Reply}
 use Rattle.profile_model.specs.declared.push.Push.{Push}
+use Rattle.api_replies.specs.Facts.{Facts}
 use Rattle.api_replies.specs.declared.verdict.FirstVerdict.{FirstVerdict}
 use Rattle.api_replies.specs.declared.verdict.FirstVerdict.TheVariants.{Kept, OverLimit, Memory}
 use Rattle.pyro_server.specs.Settled.{IsSettled}
@@ -17,37 +18,39 @@ use Rattle.pyro_server.specs.ServedLaws.{HistoryGrows, KeepsItsPlace}
 stays : (history next : List Push) → next ≡ history → (later : List Push) × (next ≡ history ++ later)
 stays history next same = ([], same ∙ sym (append-nil history))
 
-settled_grows : (history next : List Push) (push : Push) (verdict : FirstVerdict) → IsSettled history push verdict next
+settled_grows : (limit : ℕ) (history next : List Push) (push : Push) (verdict : FirstVerdict) → IsSettled limit history push verdict next
     → (later : List Push) × (next ≡ history ++ later)
-settled_grows history next push (Kept front) settled = (push ∷ [], settled.2)
-settled_grows history next push (OverLimit kept adds limit front) settled = stays history next settled.5
-settled_grows history next push Memory settled = stays history next settled
+settled_grows limit history next push (Kept front) settled = (push ∷ [], settled.2)
+settled_grows limit history next push (OverLimit kept adds told front) settled = stays history next settled.5
+settled_grows limit history next push Memory settled = absurd settled
 
-pub exchange_grows : (single : Bool) (asked : Asked) (history next : List Push) (reply : Reply) → IsExchange single asked history reply next
+pub exchange_grows : (facts : Facts) (asked : Asked) (history next : List Push) (reply : Reply) → IsExchange facts asked history reply next
     → (later : List Push) × (next ≡ history ++ later)
-exchange_grows single asked history next reply (inl (is, same)) = stays history next same
-exchange_grows single asked history next reply (inr (form, push, verdict, write, settled, told)) = settled_grows history next push verdict settled
+exchange_grows facts asked history next reply (inl (inl (is, same))) = stays history next same
+exchange_grows facts asked history next reply (inl (inr (form, push, verdict, write, settled, told))) =
+    settled_grows (facts.limit push.tenant) history next push verdict settled
+exchange_grows facts asked history next reply (inr (excused, same)) = stays history next same
 
 -- one history grows to the next, and that to the last
 pub both : (history next final : List Push) → (later : List Push) × (next ≡ history ++ later) → (later : List Push) × (final ≡ next ++ later)
     → (later : List Push) × (final ≡ history ++ later)
 both history next final (one, is) (two, ends) = (one ++ two, ends ∙ ap (λ front. front ++ two) is ∙ append_assoc history one two)
 
-pub in_turn_grows : (single : Bool) (history : List Push) (exchanges : List Exchange) (final : List Push) → InTurn single history exchanges final
+pub in_turn_grows : (facts : Facts) (history : List Push) (exchanges : List Exchange) (final : List Push) → InTurn facts history exchanges final
     → (later : List Push) × (final ≡ history ++ later)
-in_turn_grows single history [] final same = stays history final same
-in_turn_grows single history (one ∷ more) final (exchange, turn) =
-    both history one.next final (exchange_grows single one.answer.asked history one.next one.answer.reply exchange) (in_turn_grows single one.next more final turn)
+in_turn_grows facts history [] final same = stays history final same
+in_turn_grows facts history (one ∷ more) final (exchange, turn) =
+    both history one.next final (exchange_grows facts one.answer.asked history one.next one.answer.reply exchange) (in_turn_grows facts one.next more final turn)
 
 pub history_grows : HistoryGrows
-history_grows single number moment bytes history exchanges gave final status (given, turn) = in_turn_grows single history exchanges final turn
+history_grows facts history exchanges final turn = in_turn_grows facts history exchanges final turn
 
 -- a push is one of its tenant's
 pub own : (push : Push) → pushes_of (push ∷ []) push.tenant ≡ push ∷ []
 own push = let same : pointwise nat_eq push.tenant push.tenant ≡ true = nat_list_eq_equiv.refl push.tenant in rw same refl
 
 pub keeps_its_place : KeepsItsPlace
-keeps_its_place history next later push front (told, room, kept) =
+keeps_its_place limit history next later push front (told, room, kept) =
     let mine = λ (one : Push). pointwise nat_eq one.tenant push.tenant in
     let count = length-append (pushes_of history push.tenant) (push ∷ []) in (
       omega arith,

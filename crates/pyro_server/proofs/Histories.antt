@@ -7,6 +7,7 @@ use Rattle.http_session.specs.declared.reply.Reply.{Reply}
 use Rattle.http_session.specs.declared.reply.Status.TheVariants.{Ok}
 use Rattle.profile_model.specs.History.{front_of, pushes_of, pushes_total}
 use Rattle.profile_model.specs.declared.push.Push.{Push}
+use Rattle.api_replies.specs.Facts.{Facts}
 use Rattle.api_replies.specs.Forms.{tenant_of}
 use Rattle.api_replies.specs.Meanings.{IsWrite}
 use Rattle.api_replies.proofs.ReplyLemmas.{answers_no_write, own_again, reply_alike, shows_its_front, writer_is_named}
@@ -28,35 +29,38 @@ own_stays : (history : List Push) (named : Option (List ℕ)) (tenant : List ℕ
 own_stays history named tenant is = sym (ap (λ (own : List Push). pushes_of own tenant) (ap (own_pushes history) is) ∙ own_again history tenant)
 
 -- what becomes of a push depends on the pushes of its tenant alone
-settled_alike : (history other next : List Push) (push : Push) (verdict : FirstVerdict) → pushes_of history push.tenant ≡ pushes_of other push.tenant
-    → IsSettled history push verdict next → (left : List Push) × IsSettled other push verdict left
-settled_alike history other next push (Kept front) same (told, room, kept) = (other ++ push ∷ [], (told ∙ ap (λ (own : List Push). length own + 1) same, rw same at room, refl))
-settled_alike history other next push (OverLimit kept adds limit front) same (kept_is, adds_is, limit_is, told, over, stays) =
+settled_alike : (limit : ℕ) (history other next : List Push) (push : Push) (verdict : FirstVerdict) → pushes_of history push.tenant ≡ pushes_of other push.tenant
+    → IsSettled limit history push verdict next → (left : List Push) × IsSettled limit other push verdict left
+settled_alike limit history other next push (Kept front) same (told, room, kept) =
+    (other ++ push ∷ [], (told ∙ ap (λ (own : List Push). length own + 1) same, rw same at room, refl))
+settled_alike limit history other next push (OverLimit kept adds shown front) same (kept_is, adds_is, limit_is, told, over, stays) =
     (other, (kept_is ∙ ap pushes_total same, adds_is, limit_is, told ∙ ap (λ (own : List Push). length own) same, over, refl))
-settled_alike history other next push Memory same settled = (other, refl)
+settled_alike limit history other next push Memory same settled = absurd settled
 
-answered_alike : (single : Bool) (history other : List Push) (one : Answer)
-    → ((tenant : List ℕ) → tenant_of single one.asked ≡ Some tenant → pushes_of history tenant ≡ pushes_of other tenant)
-    → IsAnsweredOver single history one → IsAnsweredOver single other one
-answered_alike single history other one same (next, inl (is, stays)) = (other, inl (reply_alike single one.asked history other one.reply same is, refl))
-answered_alike single history other one same (next, inr (form, push, verdict, write, settled, told)) =
-    let there = settled_alike history other next push verdict (same push.tenant (writer_is_named single one.asked form push write)) settled in
-    (there.0, inr (form, push, verdict, write, there.1, told))
+answered_alike : (facts : Facts) (history other : List Push) (one : Answer)
+    → ((tenant : List ℕ) → tenant_of facts one.asked ≡ Some tenant → pushes_of history tenant ≡ pushes_of other tenant)
+    → IsAnsweredOver facts history one → IsAnsweredOver facts other one
+answered_alike facts history other one same (next, inl (inl (is, stays))) = (other, inl (inl (reply_alike facts one.asked history other one.reply same is, refl)))
+answered_alike facts history other one same (next, inl (inr (form, push, verdict, write, settled, told))) =
+    let there =
+    settled_alike (facts.limit push.tenant) history other next push verdict (same push.tenant (writer_is_named facts one.asked form push write)) settled in
+    (there.0, inl (inr (form, push, verdict, write, there.1, told)))
+answered_alike facts history other one same (next, inr (excused, stays)) = (other, inr (excused, refl))
 
 pub replies_are_isolated : RepliesAreIsolated
-replies_are_isolated single asked history reply =
-    let named = tenant_of single asked in
+replies_are_isolated facts asked history reply =
+    let named = tenant_of facts asked in
     let own = own_pushes history named in (
-      reply_alike single asked history own reply (λ tenant is. own_stays history named tenant is),
-      reply_alike single asked own history reply (λ tenant is. sym (own_stays history named tenant is)),
+      reply_alike facts asked history own reply (λ tenant is. own_stays history named tenant is),
+      reply_alike facts asked own history reply (λ tenant is. sym (own_stays history named tenant is)),
     )
 
 pub answers_are_isolated : AnswersAreIsolated
-answers_are_isolated single history one =
-    let named = tenant_of single one.asked in
+answers_are_isolated facts history one =
+    let named = tenant_of facts one.asked in
     let own = own_pushes history named in (
-      answered_alike single history own one (λ tenant is. own_stays history named tenant is),
-      answered_alike single own history one (λ tenant is. sym (own_stays history named tenant is)),
+      answered_alike facts history own one (λ tenant is. own_stays history named tenant is),
+      answered_alike facts own history one (λ tenant is. sym (own_stays history named tenant is)),
     )
 
 -- ---- fronts and prefixes
@@ -95,54 +99,56 @@ own_front history None front few = ([], history, refl, sym (take-nil front))
 own_front history (Some tenant) front few = filter_front _ history front few
 
 -- a reply over a prefix is one over a front of the tenant's pushes
-pub answered_at : (single : Bool) (before after : List Push) (one : Answer) → IsAnsweredOver single before one → IsAnsweredAt single (before ++ after) one
-answered_at single before after one answered =
-    let named = tenant_of single one.asked in
+pub answered_at : (facts : Facts) (before after : List Push) (one : Answer) → IsAnsweredOver facts before one → IsAnsweredAt facts (before ++ after) one
+answered_at facts before after one answered =
+    let named = tenant_of facts one.asked in
     let own = own_pushes before named in
     let more = own-append before after named in
     let front : take (length own) (own_pushes (before ++ after) named) ≡ own = ap (take (length own)) more ∙ take-append_seam own (own_pushes after named) in
     let long : length (own_pushes (before ++ after) named) ≡ length own + length (own_pushes after named) = ap length more ∙ length-append own (own_pushes after named) in
-    let P : List Push → Type 0 = λ pushes. IsAnsweredOver single pushes one in
-    (length own, omega arith, subst P (sym front) ((answers_are_isolated single before one).0 answered))
+    let P : List Push → Type 0 = λ pushes. IsAnsweredOver facts pushes one in
+    (length own, omega arith, subst P (sym front) ((answers_are_isolated facts before one).0 answered))
 
 pub front_is_prefix : FrontIsPrefix
-front_is_prefix single history one = (
+front_is_prefix facts history one = (
   λ (front, few, answered).
-      let named = tenant_of single one.asked in
+      let named = tenant_of facts one.asked in
       let cut = own_front history named front few in
-      let P : List Push → Type 0 = λ pushes. IsAnsweredOver single pushes one in
-      (cut.0, cut.1, cut.2, (answers_are_isolated single cut.0 one).1 (subst P (sym cut.3) answered)),
+      let P : List Push → Type 0 = λ pushes. IsAnsweredOver facts pushes one in
+      (cut.0, cut.1, cut.2, (answers_are_isolated facts cut.0 one).1 (subst P (sym cut.3) answered)),
   λ (before, after, is, answered).
-      let P : List Push → Type 0 = λ pushes. IsAnsweredAt single pushes one in subst P (sym is) (answered_at single before after one answered),
+      let P : List Push → Type 0 = λ pushes. IsAnsweredAt facts pushes one in subst P (sym is) (answered_at facts before after one answered),
 )
 
 -- ---- what one exchange keeps
 
 -- the push that an exchange kept and told so
-abbrev pub Keeps : Bool → List Push → Answer → List Push → Type 0
-Keeps single history one next =
+abbrev pub Keeps : Facts → List Push → Answer → List Push → Type 0
+Keeps facts history one next =
     (form : PushForm) × (push : Push)
-    × IsWrite single one.asked form push × (one.reply.status ≡ Ok) × (one.reply.front ≡ Some (front_of history push.tenant + 1)) × (next ≡ history ++ push ∷ [])
+    × IsWrite facts one.asked form push × (one.reply.status ≡ Ok) × (one.reply.front ≡ Some (front_of history push.tenant + 1)) × (next ≡ history ++ push ∷ [])
 
 -- an exchange keeps a push and tells it, or acknowledges none and leaves the history
-pub keeps_or_stays : (single : Bool) (history next : List Push) (one : Answer) → IsExchange single one.asked history one.reply next
-    → Keeps single history one next ⊎ ((¬ (IsAcknowledged single one)) × (next ≡ history))
-keeps_or_stays single history next one (inl (is, stays)) = inr (λ (write, ok). answers_no_write single one.asked history one.reply write.0 write.1 is write.2 ok, stays)
-keeps_or_stays single history next one (inr (form, push, Kept front, write, (is, room, kept), told)) =
+pub keeps_or_stays : (facts : Facts) (history next : List Push) (one : Answer) → IsExchange facts one.asked history one.reply next
+    → Keeps facts history one next ⊎ ((¬ (IsAcknowledged facts one)) × (next ≡ history))
+keeps_or_stays facts history next one (inl (inl (is, stays))) =
+    inr (λ (write, ok). answers_no_write facts one.asked history one.reply write.0 write.1 is write.2 ok, stays)
+keeps_or_stays facts history next one (inl (inr (form, push, Kept front, write, (is, room, kept), told))) =
     inl (form, push, write, ap (λ (r : Reply). r.status) told, ap (λ (r : Reply). r.front) told ∙ ap (λ n. Some n) is, kept)
-keeps_or_stays single history next one (inr (form, push, OverLimit kept adds limit front, write, settled, told)) =
+keeps_or_stays facts history next one (inl (inr (form, push, OverLimit kept adds limit front, write, settled, told))) =
     inr (λ (write, ok). (let is = ap (λ (r : Reply). r.status) told in cc), settled.5)
-keeps_or_stays single history next one (inr (form, push, Memory, write, settled, told)) =
-    inr (λ (write, ok). (let is = ap (λ (r : Reply). r.status) told in cc), settled)
+keeps_or_stays facts history next one (inl (inr (form, push, Memory, write, settled, told))) = absurd settled
+keeps_or_stays facts history next one (inr ((reaches, told), stays)) =
+    inr (λ (write, ok). (let is = ap (λ (r : Reply). r.status) told in cc), stays)
 
 -- a push that was told as kept stands in every later history, behind a base of the one before
-pub kept_stands : (single : Bool) (base middle next later : List Push) (one : Answer) → IsExchange single one.asked (base ++ middle) one.reply next
-    → IsKept single base (next ++ later) one
-kept_stands single base middle next later one exchange acknowledged = by (keeps_or_stays single (base ++ middle) next one exchange)
+pub kept_stands : (facts : Facts) (base middle next later : List Push) (one : Answer) → IsExchange facts one.asked (base ++ middle) one.reply next
+    → IsKept facts base (next ++ later) one
+kept_stands facts base middle next later one exchange acknowledged = by (keeps_or_stays facts (base ++ middle) next one exchange)
   where
-    by : Keeps single (base ++ middle) one next ⊎ ((¬ (IsAcknowledged single one)) × (next ≡ base ++ middle))
+    by : Keeps facts (base ++ middle) one next ⊎ ((¬ (IsAcknowledged facts one)) × (next ≡ base ++ middle))
         → (form : PushForm) × (push : Push) × (place : ℕ)
-        × IsWrite single one.asked form push × (one.reply.front ≡ Some (place + 1)) × StandsAt base (next ++ later) push place
+        × IsWrite facts one.asked form push × (one.reply.front ≡ Some (place + 1)) × StandsAt base (next ++ later) push place
     by (inl (form, push, write, ok, front, kept)) = (
       form,
       push,
@@ -180,26 +186,27 @@ one_front : (a b : ℕ) (shown : Option ℕ) → shown ≡ Some a → shown ≡ 
 one_front a b shown is other = cc
 
 -- a front that is shown lies between the tenant's before and after, and past the one before where a push was kept
-pub between_fronts : (single : Bool) (history next : List Push) (one : Answer) (tenant : List ℕ) (front : ℕ) → IsExchange single one.asked history one.reply next
-    → Shows single one tenant front → (front_of history tenant ≤ front) × (IsAcknowledged single one → front_of history tenant < front) × (front ≤ front_of next tenant)
-between_fronts single history next one tenant front (inl (is, stays)) (named, shown) =
-    let own_one = shows_its_front single one.asked history one.reply front is shown in
-    let same = one_name own_one.0 tenant (tenant_of single one.asked) own_one.1 named in
+pub between_fronts : (facts : Facts) (history next : List Push) (one : Answer) (tenant : List ℕ) (front : ℕ) → IsExchange facts one.asked history one.reply next
+    → Shows facts one tenant front → (front_of history tenant ≤ front) × (IsAcknowledged facts one → front_of history tenant < front) × (front ≤ front_of next tenant)
+between_fronts facts history next one tenant front (inl (inl (is, stays))) (named, shown) =
+    let own_one = shows_its_front facts one.asked history one.reply front is shown in
+    let same = one_name own_one.0 tenant (tenant_of facts one.asked) own_one.1 named in
     let told : front ≡ front_of history tenant = own_one.2 ∙ ap (front_of history) same in
     let left : front_of next tenant ≡ front_of history tenant = ap (λ (pushes : List Push). front_of pushes tenant) stays in
-    (omega arith, λ (write, ok). absurd (answers_no_write single one.asked history one.reply write.0 write.1 is write.2 ok), omega arith)
-between_fronts single history next one tenant front (inr (form, push, Kept kept_front, write, (is, room, kept), told)) (named, shown) =
-    let same = one_name push.tenant tenant (tenant_of single one.asked) (writer_is_named single one.asked form push write) named in
+    (omega arith, λ (write, ok). absurd (answers_no_write facts one.asked history one.reply write.0 write.1 is write.2 ok), omega arith)
+between_fronts facts history next one tenant front (inl (inr (form, push, Kept kept_front, write, (is, room, kept), told))) (named, shown) =
+    let same = one_name push.tenant tenant (tenant_of facts one.asked) (writer_is_named facts one.asked form push write) named in
     let fronts = one_front kept_front front one.reply.front (ap (λ (r : Reply). r.front) told) shown in
     let before : front_of history push.tenant ≡ front_of history tenant = ap (front_of history) same in
     let after : front_of next tenant ≡ front_of history push.tenant + 1 =
     ap (front_of next) (sym same) ∙ ap (λ (pushes : List Push). front_of pushes push.tenant) kept ∙ front_with history push in
     (omega arith, λ acknowledged. omega arith, omega arith)
-between_fronts single history next one tenant front (inr (form, push, OverLimit kept adds limit old_front, write, (kept_is, adds_is, limit_is, is, over, stays), told)) (named, shown) =
-    let same = one_name push.tenant tenant (tenant_of single one.asked) (writer_is_named single one.asked form push write) named in
+between_fronts facts history next one tenant front (inl (inr (form, push, OverLimit kept adds limit old_front, write, (kept_is, adds_is, limit_is, is, over, stays), told))) (named, shown) =
+    let same = one_name push.tenant tenant (tenant_of facts one.asked) (writer_is_named facts one.asked form push write) named in
     let fronts = one_front old_front front one.reply.front (ap (λ (r : Reply). r.front) told) shown in
     let before : front_of history push.tenant ≡ front_of history tenant = ap (front_of history) same in
     let left : front_of next tenant ≡ front_of history tenant = ap (λ (pushes : List Push). front_of pushes tenant) stays in
     (omega arith, λ (other, ok). (let status = ap (λ (r : Reply). r.status) told in cc), omega arith)
-between_fronts single history next one tenant front (inr (form, push, Memory, write, stays, told)) (named, shown) =
+between_fronts facts history next one tenant front (inl (inr (form, push, Memory, write, settled, told))) (named, shown) = absurd settled
+between_fronts facts history next one tenant front (inr ((reaches, told), stays)) (named, shown) =
     let none = ap (λ (r : Reply). r.front) told in cc

@@ -4,3 +4,4 @@ pub mod Growing
 pub mod Histories
 pub mod ServingAt
 pub mod ServedRows
+pub mod Input

@@ -1,11 +1,12 @@
 -- What `ServedAt` says and rules out, row by row.
-use Rattle.std.proofs.Common.{◌≡◌, ◌<◌, ◌∙◌, ℕ, Bool, true, List, [], ◌∷◌, ◌++◌, length, get_or, refl, sym, ap, arith, length-append}
+use Rattle.std.proofs.Common.{◌≡◌, ◌<◌, ◌∙◌, ℕ, true, List, [], ◌∷◌, ◌++◌, length, get_or, refl, sym, ap, arith, length-append}
 use Rattle.std.specs.Prelude.{nat_eq}
 use Rattle.std.specs.Cmp.Lexicographic.{pointwise, nat_list_eq_equiv}
 use Rattle.std.proofs.Math.Seq.{get_or-append_seam}
 use Rattle.std.proofs.lemmas.List.Elements.{All-head, filter-append}
 use Rattle.profile_model.specs.History.{pushes_of}
 use Rattle.profile_model.specs.declared.push.Push.{Push}
+use Rattle.api_replies.specs.Facts.{Facts}
 use Rattle.pyro_server.specs.Given.{Answer}
 use Rattle.pyro_server.specs.ServedAt.{FrontsRise, IsAcknowledged, IsAtLeast, IsKept, Shows, StandsAt}
 
@@ -23,20 +24,20 @@ stands_as_item base history push other place stands =
     ap (λ (pushes : List Push). get_or pushes place other) is ∙ ap (λ n. get_or (mine ++ push ∷ rest) n other) (sym stands.at) ∙ get_or-append_seam mine push rest other
 
 -- a reply over fewer pushes than the tenant was shown before
-pub no_stale_reply : (single : Bool) (one other : Answer) (tenant : List ℕ) (high low : ℕ) → Shows single one tenant high → Shows single other tenant low → low < high
-    → FrontsRise single (one ∷ other ∷ []) → ⊥
-no_stale_reply single one other tenant high low shown stale less rise =
-    let least = (All-head (IsAtLeast single tenant high) other [] (rise.0 tenant high shown) low stale).0 in omega arith
+pub no_stale_reply : (facts : Facts) (one other : Answer) (tenant : List ℕ) (high low : ℕ) → Shows facts one tenant high → Shows facts other tenant low → low < high
+    → FrontsRise facts (one ∷ other ∷ []) → ⊥
+no_stale_reply facts one other tenant high low shown stale less rise =
+    let least = (All-head (IsAtLeast facts tenant high) other [] (rise.0 tenant high shown) low stale).0 in omega arith
 
 -- a push that is told the front that its tenant was shown before
-pub no_repeated_front : (single : Bool) (one other : Answer) (tenant : List ℕ) (front : ℕ) → Shows single one tenant front → Shows single other tenant front
-    → IsAcknowledged single other → FrontsRise single (one ∷ other ∷ []) → ⊥
-no_repeated_front single one other tenant front shown again acknowledged rise =
-    let past = (All-head (IsAtLeast single tenant front) other [] (rise.0 tenant front shown) front again).1 acknowledged in omega arith
+pub no_repeated_front : (facts : Facts) (one other : Answer) (tenant : List ℕ) (front : ℕ) → Shows facts one tenant front → Shows facts other tenant front
+    → IsAcknowledged facts other → FrontsRise facts (one ∷ other ∷ []) → ⊥
+no_repeated_front facts one other tenant front shown again acknowledged rise =
+    let past = (All-head (IsAtLeast facts tenant front) other [] (rise.0 tenant front shown) front again).1 acknowledged in omega arith
 
 -- a push that is told as kept, where the history stayed
-pub no_empty_promise : (single : Bool) (base : List Push) (one : Answer) → IsAcknowledged single one → IsKept single base base one → ⊥
-no_empty_promise single base one acknowledged kept =
+pub no_empty_promise : (facts : Facts) (base : List Push) (one : Answer) → IsAcknowledged facts one → IsKept facts base base one → ⊥
+no_empty_promise facts base one acknowledged kept =
     let stands = (kept acknowledged).5 in
     let behind = stands.behind in
     let long = ap length stands.is ∙ length-append stands.before ((kept acknowledged).1 ∷ stands.after) in omega arith

@@ -1,120 +1,216 @@
 -- How a whole session follows from its steps.
-use Rattle.std.proofs.Common.{◌≡◌, ◌+◌, ◌∙◌, ℕ, Bool, true, false, List, [], ◌∷◌, ◌++◌, refl, sym, ap, subst, inl, inr, append-nil, append_assoc}
-use Rattle.std.specs.Prelude.{◌||◌}
+use Rattle.std.proofs.Common.{◌≡◌, ◌+◌, ◌∙◌, ℕ, Bool, true, false, List, [], ◌∷◌, ◌++◌, length, refl, sym, ap, subst, inl, inr, append-nil, append_assoc, length-append, arith}
+use Rattle.std.specs.Prelude.{◌||◌, map}
+use Rattle.std.proofs.lemmas.List.{length-map}
+use Rattle.std.proofs.lemmas.List.Concat.{flat_map-append}
 use Rattle.http_session.specs.Asked.{Asked}
-use Rattle.link_trait.specs.Link.{Told}
+use Rattle.link_trait.specs.Link.{Told, Passed}
 use Rattle.http_session.specs.Reply.{bytes_of_reply}
-use Rattle.http_session.specs.Takes.{IsWhole}
+use Rattle.http_session.specs.Takes.{IsWhole, AreRequests, is_closed}
 use Rattle.http_session.specs.Waiting.{Waiting}
-use Rattle.http_session.proofs.TakesLemmas.{whole_stays}
+use Rattle.http_session.proofs.RequestsLemmas.{closed_last, requests_stay, requests_then}
 use Rattle.profile_model.specs.declared.push.Push.{Push}
-use Rattle.pyro_server.specs.Given.{status_after}
-use Rattle.pyro_server.specs.Served.{Exchange, Serves, IsServedInTurn}
-use Rattle.pyro_server.specs.Steps.{ServesStep}
-use Rattle.pyro_server.specs.declared.session.Step.TheVariants.{Answered, Ended}
-use Rattle.pyro_server.specs.declared.status.Status.{Status}
+use Rattle.api_replies.specs.Facts.{Facts}
+use Rattle.pyro_server.specs.Given.{Answer, EndsSo, Gives, IsEnded, IsOpen, requests_of, replies_of, last_bytes}
+use Rattle.pyro_server.specs.Served.{Exchange, InTurn, IsExchange, IsServedInTurn, answers_of}
+use Rattle.pyro_server.specs.Steps.{GivesNoMore, ServesStep, SoFar}
+use Rattle.pyro_server.specs.declared.session.Step.TheVariants.{Answered, Over}
+use Rattle.pyro_server.specs.declared.ending.Ending.{Ending}
 
--- Whatever serves the bytes that are held and come, from the next request on, serves all that was taken.
-pub record SoFar (single : Bool) (reader : Waiting) (history : List Push) (before now : Told) : Type 0 where
-  pub took : List ℕ
-  pub gave : List ℕ
-  pub taken : now.taken ≡ before.taken ++ took
-  pub given : now.given ≡ before.given ++ gave
-  pub moment : now.moment ≡ before.moment
-  pub completes : (more : List ℕ) (exchanges : List Exchange) (later : List ℕ) (final : List Push) (status : Status)
-      → Serves single (reader.given + 1) before.moment (reader.held ++ more) history exchanges later final status
-      → (all : List Exchange) × Serves single 1 before.moment (took ++ more) [] all (gave ++ later) final status
+-- ---- what passed
 
--- before the first request nothing was taken
-pub at_first : (single : Bool) (reader : Waiting) (history : List Push) → reader.held ≡ [] → reader.given ≡ 0 → history ≡ []
-    → (a : Told) → SoFar single reader history a a
-at_first single reader history held given none a = record {
-  took = [];
-  gave = [];
-  taken = sym (append-nil a.taken);
-  given = sym (append-nil a.given);
-  moment = refl;
-  completes = λ more exchanges later final status serves.
-      (exchanges, rw (held, given, none) at serves);
+pub passed_nothing : (a : Told) → Passed [] [] a a
+passed_nothing a = record { taken = sym (append-nil a.taken); to_come = refl; given = sym (append-nil a.given); moment = refl }
+
+pub passed_then : (p q g h : List ℕ) (a b c : Told) → Passed p g a b → Passed q h b c → Passed (p ++ q) (g ++ h) a c
+passed_then p q g h a b c one two = record {
+  taken = two.taken ∙ ap (λ (xs : List ℕ). xs ++ q) one.taken ∙ append_assoc a.taken p q;
+  to_come = one.to_come ∙ ap (λ (xs : List ℕ). p ++ xs) two.to_come ∙ sym (append_assoc p q c.to_come);
+  given = two.given ∙ ap (λ (xs : List ℕ). xs ++ h) one.given ∙ append_assoc a.given g h;
+  moment = two.moment ∙ one.moment;
 }
 
--- the bytes of a request with more behind them
-whole_with : (number : ℕ) (given moment : ℕ) (held piece more rest : List ℕ) (asked : Asked) → given ≡ number
-    → IsWhole given moment (held ++ piece) asked rest → IsWhole number moment (held ++ (piece ++ more)) asked (rest ++ more)
-whole_with number given moment held piece more rest asked is whole =
-    let P : ℕ → Type 0 = λ n. IsWhole n moment (held ++ (piece ++ more)) asked (rest ++ more) in
-    let Q : List ℕ → Type 0 = λ bytes. IsWhole given moment bytes asked (rest ++ more) in
-    subst P is (subst Q (append_assoc held piece more) (whole_stays given moment (held ++ piece) more rest asked whole))
+-- ---- one answer more
 
--- one request more was answered
-pub one_more : (single : Bool) (old new : Waiting) (history next : List Push) (before between now : Told) → new.given ≡ old.given + 1
-    → SoFar single old history before between → ServesStep single old new history next (Answered false) between now
-    → SoFar single new next before now
-one_more single old new history next before between now number far (piece, asked, reply, taken, given, moment, whole, exchange, unclosed) =
-    let bytes = bytes_of_reply reply in
-    let one : Exchange = record { answer = record { asked = asked; reply = reply }; next = next } in
-    let M : ℕ → Type 0 = λ m. IsWhole new.given m (old.held ++ piece) asked new.held in
-    let here : IsWhole new.given before.moment (old.held ++ piece) asked new.held = subst M far.moment whole in
-    record {
-      took = far.took ++ piece;
-      gave = far.gave ++ bytes;
-      taken = taken ∙ ap (λ front. front ++ piece) far.taken ∙ append_assoc before.taken far.took piece;
-      given = given ∙ ap (λ front. front ++ bytes) far.given ∙ append_assoc before.given far.gave bytes;
-      moment = moment ∙ far.moment;
-      completes = λ more exchanges later final status serves.
-          let N : ℕ → Type 0 = λ n. Serves single n before.moment (new.held ++ more) next exchanges later final status in
-          let rest : Serves single (old.given + 1 + 1) before.moment (new.held ++ more) next exchanges later final status = subst N (ap (λ n. n + 1) number) serves in
-          let step : Serves single (old.given + 1) before.moment (old.held ++ (piece ++ more)) history (one ∷ exchanges) (bytes ++ later) final status = (
-            (
-              new.held ++ more,
-              whole_with (old.given + 1) new.given before.moment old.held piece more new.held asked number here,
-              inl (later, refl, unclosed, rest.0),
-            ),
-            (exchange, rest.1),
-          ) in
-          let done = far.completes (piece ++ more) (one ∷ exchanges) (bytes ++ later) final status step in
-          (done.0, rw (append_assoc far.took piece more, append_assoc far.gave bytes later) done.1);
-    }
+map_then : {X Y : Type 0} (f : X → Y) (xs : List X) (x : X) → map f (xs ++ x ∷ []) ≡ map f xs ++ f x ∷ []
+map_then f [] x = refl
+map_then f (y ∷ xs) x = ap (λ ys. f y ∷ ys) (map_then f xs x)
 
--- a whole session, where what was held and came last serves to the end
-ends : (single : Bool) (old : Waiting) (history next : List Push) (status : Status) (before between now : Told) (piece gave : List ℕ) (exchanges : List Exchange)
-    → SoFar single old history before between → now.taken ≡ between.taken ++ piece → now.given ≡ between.given ++ gave
-    → Serves single (old.given + 1) between.moment (old.held ++ piece) history exchanges gave next status
-    → IsServedInTurn single next status before now
-ends single old history next status before between now piece gave exchanges far taken given serves =
-    let M : ℕ → Type 0 = λ m. Serves single (old.given + 1) m (old.held ++ piece) history exchanges gave next status in
-    let all = far.completes piece exchanges gave next status (subst M far.moment serves) in (
-      far.took ++ piece,
-      far.gave ++ gave,
-      all.0,
-      taken ∙ ap (λ front. front ++ piece) far.taken ∙ append_assoc before.taken far.took piece,
-      given ∙ ap (λ front. front ++ gave) far.given ∙ append_assoc before.given far.gave gave,
-      all.1,
-    )
+replies_then : (answers : List Answer) (one : Answer) → replies_of (answers ++ one ∷ []) ≡ replies_of answers ++ bytes_of_reply one.reply
+replies_then answers one =
+    flat_map-append (λ (a : Answer). bytes_of_reply a.reply) answers (one ∷ [])
+    ∙ ap (λ (last : List ℕ). replies_of answers ++ last) (append-nil (bytes_of_reply one.reply))
 
--- the connection ended
-pub ended : (single : Bool) (old new : Waiting) (history next : List Push) (status : Status) (before between now : Told)
-    → SoFar single old history before between → ServesStep single old new history next (Ended status) between now
-    → IsServedInTurn single next status before now
-ended single old new history next status before between now far (piece, gave, exchanges, taken, given, serves) =
-    ends single old history next status before between now piece gave exchanges far taken given serves
+pub in_turn_then : (facts : Facts) (history : List Push) (exchanges : List Exchange) (middle : List Push) (one : Exchange) → InTurn facts history exchanges middle
+    → IsExchange facts one.answer.asked middle one.answer.reply one.next → InTurn facts history (exchanges ++ one ∷ []) one.next
+in_turn_then facts history [] middle one same exchange =
+    let P : List Push → Type 0 = λ pushes. IsExchange facts one.answer.asked pushes one.answer.reply one.next in (subst P same exchange, refl)
+in_turn_then facts history (first ∷ more) middle one (exchanged, turn) exchange = (exchanged, in_turn_then facts first.next more middle one turn exchange)
 
--- the last request was answered
-pub closed : (single : Bool) (old new : Waiting) (history next : List Push) (close : Bool) (status : Status) (before between now : Told) → new.given ≡ old.given + 1
-    → status ≡ status_after (old.given + 1) → SoFar single old history before between → ServesStep single old new history next (Answered close) between now
-    → ((asked : Asked) (moment : ℕ) (bytes rest : List ℕ) → IsWhole (old.given + 1) moment bytes asked rest → asked.close ≡ close → asked.close ≡ true)
-    → IsServedInTurn single next status before now
-closed single old new history next close status before between now number last far (piece, asked, reply, taken, given, moment, whole, exchange, same) closes =
-    let bytes = bytes_of_reply reply in
-    let one : Exchange = record { answer = record { asked = asked; reply = reply }; next = next } in
-    let P : ℕ → Type 0 = λ n. IsWhole n between.moment (old.held ++ piece) asked new.held in
-    let here : IsWhole (old.given + 1) between.moment (old.held ++ piece) asked new.held = subst P number whole in
-    ends single old history next status before between now piece bytes (one ∷ []) far taken given
-    ((new.held, here, inr (inl (refl, closes asked between.moment (old.held ++ piece) new.held here same, refl, last))), (exchange, refl))
+-- ---- the session
+
+-- before the first request nothing was taken
+pub at_first : (facts : Facts) (reader : Waiting) (history : List Push) → reader.held ≡ [] → reader.given ≡ 0 → history ≡ []
+    → (a : Told) → SoFar facts reader history a a
+at_first facts reader history held given none a = (
+  [],
+  record { took = []; gave = []; passed = passed_nothing a; answered = record { requests = held; replies = refl }; goes_on = refl },
+  sym given,
+  none,
+)
+
+module _ (facts : Facts) (old new : Waiting) (history next : List Push) (before between now : Told) where
+  -- as many requests were answered as the reader gave
+  many : (exchanges : List Exchange) → length exchanges ≡ old.given → length (requests_of (answers_of exchanges)) ≡ old.given
+  many exchanges count = length-map (answers_of exchanges) (λ (a : Answer). a.asked) ∙ length-map exchanges (λ (e : Exchange). e.answer) ∙ count
+
+  -- the requests that were answered, with one more behind them
+  requests_with : (far : SoFar facts old history before between) (piece rest : List ℕ) (one : Answer)
+      → IsWhole (old.given + 1) between.moment (old.held ++ piece) one.asked rest
+      → AreRequests 1 before.moment (far.1.took ++ piece) (requests_of (answers_of far.0 ++ one ∷ [])) rest
+  requests_with (exchanges, open_, count, turn) piece rest one whole =
+      let requests = requests_of (answers_of exchanges) in
+      let long : length requests ≡ old.given = many exchanges count in
+      let number : old.given + 1 ≡ 1 + length requests = omega arith in
+      let N : ℕ → Type 0 = λ n. IsWhole n between.moment (old.held ++ piece) one.asked rest in
+      let M : ℕ → Type 0 = λ m. IsWhole (1 + length requests) m (old.held ++ piece) one.asked rest in
+      let R : List Asked → Type 0 = λ asked. AreRequests 1 before.moment (open_.took ++ piece) asked rest in
+      subst R (sym (map_then (λ (a : Answer). a.asked) (answers_of exchanges) one))
+      (requests_then 1 before.moment (open_.took ++ piece) requests (old.held ++ piece) one.asked rest
+      (requests_stay 1 before.moment open_.took requests old.held piece open_.answered.requests) open_.goes_on
+      (subst M open_.passed.moment (subst N number whole)))
+
+  -- the last of them asks for closing where the one more does
+  closed_with : (answers : List Answer) (one : Answer) (close : Bool) → one.asked.close ≡ close → is_closed (requests_of (answers ++ one ∷ [])) ≡ close
+  closed_with answers one close same =
+      ap is_closed (map_then (λ (a : Answer). a.asked) answers one) ∙ closed_last (requests_of answers) one.asked ∙ same
+
+  gave_with : (answers : List Answer) (one : Answer) (gave : List ℕ) → gave ≡ replies_of answers
+      → gave ++ bytes_of_reply one.reply ≡ replies_of (answers ++ one ∷ [])
+  gave_with answers one gave is = ap (λ (front : List ℕ). front ++ bytes_of_reply one.reply) is ∙ sym (replies_then answers one)
+
+  -- one request more was answered
+  pub one_more : new.given ≡ old.given + 1 → SoFar facts old history before between → ServesStep facts old new history next (Answered false) between now
+      → SoFar facts new next before now
+  one_more number (exchanges, open_, count, turn) (piece, asked, reply, passed, whole, exchange, unclosed) =
+      let answer : Answer = record { asked = asked; reply = reply } in
+      let one : Exchange = record { answer = answer; next = next } in
+      let are : answers_of (exchanges ++ one ∷ []) ≡ answers_of exchanges ++ answer ∷ [] = map_then (λ (e : Exchange). e.answer) exchanges one in
+      let N : ℕ → Type 0 = λ n. IsWhole n between.moment (old.held ++ piece) asked new.held in
+      let O : List Answer → Type 0 = λ answers. IsOpen answers new.held before now in
+      let long = length-append exchanges (one ∷ []) in
+      let opened : IsOpen (answers_of exchanges ++ answer ∷ []) new.held before now = record {
+        took = open_.took ++ piece;
+        gave = open_.gave ++ bytes_of_reply reply;
+        passed = passed_then open_.took piece open_.gave (bytes_of_reply reply) before between now open_.passed passed;
+        answered = record {
+          requests = requests_with (exchanges, open_, count, turn) piece new.held answer (subst N number whole);
+          replies = gave_with (answers_of exchanges) answer open_.gave open_.answered.replies;
+        };
+        goes_on = closed_with (answers_of exchanges) answer false unclosed;
+      } in (
+        exchanges ++ one ∷ [],
+        subst O (sym are) opened,
+        omega arith,
+        in_turn_then facts [] exchanges history one turn exchange,
+      )
+
+  -- the last request was answered
+  pub closed : (close : Bool) (ending : Ending) → new.given ≡ old.given + 1
+      → ((requests : List Asked) (rest : List ℕ) → is_closed requests ≡ true → length requests ≡ old.given + 1 → EndsSo requests rest now.to_come ending)
+      → ((moment : ℕ) → last_bytes ending moment ≡ [])
+      → SoFar facts old history before between → ServesStep facts old new history next (Answered close) between now
+      → ((asked : Asked) (moment : ℕ) (bytes rest : List ℕ) → IsWhole (old.given + 1) moment bytes asked rest → asked.close ≡ close → asked.close ≡ true)
+      → IsServedInTurn facts next ending before now
+  closed close ending number ends silent (exchanges, open_, count, turn) (piece, asked, reply, passed, whole, exchange, same) closes =
+      let answer : Answer = record { asked = asked; reply = reply } in
+      let one : Exchange = record { answer = answer; next = next } in
+      let are : answers_of (exchanges ++ one ∷ []) ≡ answers_of exchanges ++ answer ∷ [] = map_then (λ (e : Exchange). e.answer) exchanges one in
+      let N : ℕ → Type 0 = λ n. IsWhole n between.moment (old.held ++ piece) asked new.held in
+      let here : IsWhole (old.given + 1) between.moment (old.held ++ piece) asked new.held = subst N number whole in
+      let asks : asked.close ≡ true = closes asked between.moment (old.held ++ piece) new.held here same in
+      let all = answers_of exchanges ++ answer ∷ [] in
+      let long : length (requests_of all) ≡ old.given + 1 =
+      length-map all (λ (a : Answer). a.asked) ∙ length-append (answers_of exchanges) (answer ∷ []) ∙ ap (λ n. n + 1) (length-map exchanges (λ (e : Exchange). e.answer) ∙ count) in
+      let E : List Answer → Type 0 = λ answers. IsEnded answers ending before now in
+      let ended_ : IsEnded all ending before now = record {
+        took = open_.took ++ piece;
+        gave = open_.gave ++ bytes_of_reply reply;
+        passed = passed_then open_.took piece open_.gave (bytes_of_reply reply) before between now open_.passed passed;
+        gives = inl record {
+          rest = new.held;
+          requests = requests_with (exchanges, open_, count, turn) piece new.held answer here;
+          ends = ends (requests_of all) new.held (closed_with (answers_of exchanges) answer true asks) long;
+          given = gave_with (answers_of exchanges) answer open_.gave open_.answered.replies ∙ sym (append-nil (replies_of all))
+              ∙ ap (λ (last : List ℕ). replies_of all ++ last) (sym (silent before.moment));
+        };
+      } in (exchanges ++ one ∷ [], subst E (sym are) ended_, in_turn_then facts [] exchanges history one turn exchange)
+
+  -- no further request was answered
+  over_plainly : (ending : Ending) (far : SoFar facts old history before between) (piece gave : List ℕ) → Passed piece gave between now
+      → GivesNoMore old.given between.moment (old.held ++ piece) now.to_come gave ending
+      → Gives before.moment (far.1.took ++ piece) now.to_come (answers_of far.0) (far.1.gave ++ gave) ending
+  over_plainly ending (exchanges, open_, count, turn) piece gave passed (inl (ends, given)) = inl record {
+    rest = old.held ++ piece;
+    requests = requests_stay 1 before.moment open_.took (requests_of (answers_of exchanges)) old.held piece open_.answered.requests;
+    ends = ends (requests_of (answers_of exchanges)) open_.goes_on (many exchanges count);
+    given = ap (λ (front : List ℕ). front ++ gave) open_.answered.replies
+        ∙ ap (λ (last : List ℕ). replies_of (answers_of exchanges) ++ last) (given ∙ ap (λ (m : ℕ). last_bytes ending m) open_.passed.moment);
+  }
+  over_plainly ending (exchanges, open_, count, turn) piece gave passed (inr (failed, (due, ends, (rest, cut)))) = inr (
+    failed,
+    inr record {
+      rest = old.held ++ piece;
+      requests = requests_stay 1 before.moment open_.took (requests_of (answers_of exchanges)) old.held piece open_.answered.requests;
+      due = due;
+      ends = ends (requests_of (answers_of exchanges)) open_.goes_on (many exchanges count);
+      front = gave;
+      is_front = (rest, ap (λ (m : ℕ). last_bytes due m) (sym open_.passed.moment) ∙ cut);
+      given = ap (λ (front : List ℕ). front ++ gave) open_.answered.replies;
+    },
+  )
+
+  -- the connection is over
+  pub over : (ending : Ending) → SoFar facts old history before between → ServesStep facts old new history next (Over ending) between now
+      → IsServedInTurn facts next ending before now
+  over ending (exchanges, open_, count, turn) (piece, gave, passed, inl (gives, same)) =
+      let T : List Push → Type 0 = λ pushes. InTurn facts [] exchanges pushes in (
+        exchanges,
+        record {
+          took = open_.took ++ piece;
+          gave = open_.gave ++ gave;
+          passed = passed_then open_.took piece open_.gave gave before between now open_.passed passed;
+          gives = over_plainly ending (exchanges, open_, count, turn) piece gave passed gives;
+        },
+        subst T (sym same) turn,
+      )
+  over ending (exchanges, open_, count, turn) (piece, gave, passed, inr (failed, (asked, reply, rest, whole, front, exchange))) =
+      let answer : Answer = record { asked = asked; reply = reply } in
+      let one : Exchange = record { answer = answer; next = next } in
+      let are : answers_of (exchanges ++ one ∷ []) ≡ answers_of exchanges ++ answer ∷ [] = map_then (λ (e : Exchange). e.answer) exchanges one in
+      let E : List Answer → Type 0 = λ answers. IsEnded answers ending before now in
+      let ended_ : IsEnded (answers_of exchanges ++ answer ∷ []) ending before now = record {
+        took = open_.took ++ piece;
+        gave = open_.gave ++ gave;
+        passed = passed_then open_.took piece open_.gave gave before between now open_.passed passed;
+        gives = inr (
+          failed,
+          inl record {
+            whole = answers_of exchanges;
+            cut = answer;
+            are = refl;
+            rest = rest;
+            requests = requests_with (exchanges, open_, count, turn) piece rest answer whole;
+            front = gave;
+            is_front = front;
+            given = ap (λ (before_ : List ℕ). before_ ++ gave) open_.answered.replies;
+          },
+        );
+      } in (exchanges ++ one ∷ [], subst E (sym are) ended_, in_turn_then facts [] exchanges history one turn exchange)
 
 -- request 1,000,000 asks for closing
 pub last_closes : (asked : Asked) (moment : ℕ) (bytes rest : List ℕ) → IsWhole 1000000 moment bytes asked rest → asked.close ≡ true
-last_closes asked moment bytes rest (head, body, begins, size, is) = ap (λ (a : Asked). a.close) is ∙ or-true _
+last_closes asked moment bytes rest (head, framing, body, after, begins, framed, is_body, is) = ap (λ (a : Asked). a.close) is ∙ or-true _
   where
     or-true : (b : Bool) → (b || true) ≡ true
     or-true true = refl

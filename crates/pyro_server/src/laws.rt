@@ -1,6 +1,15 @@
 // What holds of every connection that is served.
-ghost use Rattle.pyro_server.specs.ServedLaws.{AmongOthersIsServed, AnswersAreIsolated, FrontIsPrefix, HistoryGrows};
-ghost use Rattle.pyro_server.specs.ServedLaws.{InTurnIsServed, KeepsAccount, KeepsItsPlace, RepliesAreIsolated, StaysServed};
+ghost use Rattle.pyro_server.specs.ServedLaws.{AmongOthersIsServed, AnswersAllInput, AnswersAreIsolated, AnswersTheFirst, FrontIsPrefix, HistoryGrows};
+ghost use Rattle.pyro_server.specs.ServedLaws.{InTurnIsServed, IsNeverBoth, IsOneOrTheOther, KeepsAccount, KeepsItsPlace};
+ghost use Rattle.pyro_server.specs.ServedLaws.{ReadsToTheEnd, RepliesAreIsolated, StaysServed};
+
+/// The requests that a connection answers are those of all of its input, which is read to its end, or to a request
+/// that closes it.
+pub fn all_input_is_answered()
+    ensures answers { AnswersAllInput }
+    ensures first { AnswersTheFirst }
+    ensures reads { ReadsToTheEnd }
+{}
 
 /// Each reply of a session is over a front of the history that it hands back, in which each push that was
 /// told as kept stands at the place that it was told.
@@ -17,6 +26,12 @@ pub fn served_at_later_histories()
     ensures stays { StaysServed }
 {}
 
+/// Each reply is the one by definition, or an excused one, which keeps nothing.
+pub fn defined_or_excused()
+    ensures one { IsOneOrTheOther }
+    ensures never_both { IsNeverBoth }
+{}
+
 /// What a request is told depends on the pushes of its own tenant alone, so a reply over a front of them is
 /// one over a prefix of the history.
 pub fn tenants_are_apart()
@@ -25,8 +40,7 @@ pub fn tenants_are_apart()
     ensures prefix { FrontIsPrefix }
 {}
 
-/// The history past a session's base holds just the pushes that were acknowledged, in their order, and at
-/// most one more, whose reply the link's fault cut off.
+/// The history past a session's base holds just the pushes that were acknowledged, in the order of their requests.
 pub fn account_of_pushes()
     ensures account { KeepsAccount }
 {}

@@ -1,6 +1,7 @@
 //! A continuous profiling server: pushes of profiles in, flame graphs and lists out.
 #![tactic(auto)]
 
+mod ending;
 mod laws;
 mod outcome;
 mod session;
@@ -10,7 +11,11 @@ mod status;
 mod tests;
 mod words;
 
-pub use laws::{account_of_pushes, one_history, served_at_later_histories, tenants_are_apart};
+pub use ending::Ending;
+pub use laws::{
+    account_of_pushes, all_input_is_answered, defined_or_excused, one_history,
+    served_at_later_histories, tenants_are_apart,
+};
 use link_trait::StdioLink;
 pub use outcome::{Outcome, run};
 pub use session::{Ended, run_session};
@@ -20,8 +25,12 @@ use std::process::ExitCode;
 use std::{env, io, mem};
 
 fn main(rt: HostRuntime) -> ExitCode {
-    let Ok(words) = words_of(&rt) else {
-        return ExitCode::from(Status::NoCommand.code());
+    let words = match words_of(&rt) {
+        Ok(words) => words,
+        Err(error) if error.kind() == io::ErrorKind::OutOfMemory => {
+            return ExitCode::from(Status::NoMemory.code());
+        }
+        Err(_) => return ExitCode::from(Status::NoCommand.code()),
     };
     let alloc = rt.alloc();
     let stdio = StdioLink::new(rt);

@@ -1,9 +1,10 @@
 // The top call.
-ghost use Rattle.std.specs.Prelude.{◌≡◌, ◌↔◌, ◌⊎◌, [], false, map, string_bytes};
+ghost use Rattle.std.specs.Prelude.{◌≡◌, ◌≢◌, ◌↔◌, ◌⊎◌, [], true, map, string_bytes};
 ghost use Rattle.link_trait.specs.Link.{Goes, Rose};
-ghost use Rattle.pyro_server.specs.Served.{IsServedInTurn};
+ghost use Rattle.pyro_server.specs.Served.{IsServedInTurn, usual_facts};
 ghost use Rattle.pyro_server.specs.ServedAt.{IsServedAt};
-ghost use Rattle.pyro_server.specs.Statuses.{IsUnstarted};
+ghost use Rattle.pyro_server.specs.Statuses.{IsUnstarted, status_of};
+ghost use Rattle.pyro_server.specs.declared.ending.Ending.{Ending};
 ghost use Rattle.pyro_server.specs.Words.{IsSession};
 
 use crate::session::run_session;
@@ -37,14 +38,21 @@ pub fn run<D, L: Link, F, E, G>(
     finish: E,
     _gate: &G,
 ) -> Outcome<D, L, F, E>
-    // What the one word `session` gives is replies over fronts of one history, which is handed back; but where
-    // memory ran out at once, nothing was taken or given.
+    requires open { L.is_open stdio ≡ true }
+    // What the one word `session` gives is replies over fronts of one history, which is handed back, to all of the
+    // requests that come, up to an ending that the status tells; but where memory ran out at once, nothing was taken
+    // or given.
     ensures served { IsSession (map string_bytes words.now) → IsUnstarted stdio result.stdio result.history.items result.status
-        ⊎ Goes (IsServedAt false result.history.items [] result.status) (L.told stdio) (L.told result.stdio) }
+        ⊎ ((ending : Ending) × (result.status ≡ status_of ending)
+        × Goes (IsServedAt usual_facts result.history.items [] ending) (L.told stdio) (L.told result.stdio)) }
     // More closely, each is over the history that the requests before it left.
     ensures in_turn { IsSession (map string_bytes words.now) → IsUnstarted stdio result.stdio result.history.items result.status
-        ⊎ Goes (IsServedInTurn false result.history.items result.status) (L.told stdio) (L.told result.stdio) }
+        ⊎ ((ending : Ending) × (result.status ≡ status_of ending)
+        × Goes (IsServedInTurn usual_facts result.history.items ending) (L.told stdio) (L.told result.stdio)) }
+    // The stream's count of faults rises where the status says so, and only there.
     ensures cause { result.status ≡ Status.StreamFault → Rose (L.faults stdio) (L.faults result.stdio) }
+    ensures quiet { result.status ≢ Status.StreamFault → L.faults result.stdio ≡ L.faults stdio }
+    ensures open { result.status ≢ Status.StreamFault → L.is_open result.stdio ≡ true }
 
     // Other words are no command, and do nothing.
     ensures no_command { (result.status ≡ Status.NoCommand) ↔ (¬ (IsSession (map string_bytes words.now))) }
@@ -64,7 +72,7 @@ pub fn run<D, L: Link, F, E, G>(
     };
     let ended = run_session(alloc, disk, stdio, config);
     Outcome {
-        status: ended.status,
+        status: ended.ending.status(),
         disk: ended.disk,
         stdio: ended.stdio,
         doors,

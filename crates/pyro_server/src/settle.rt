@@ -1,6 +1,7 @@
 // A push joins the history, or is refused.
 ghost use Rattle.profile_model.specs.History.{HasBoundedTotals};
-ghost use Rattle.pyro_server.specs.Settled.{IsSettled};
+ghost use Rattle.std.specs.Prelude.{◌-◌, ◌^◌};
+ghost use Rattle.pyro_server.specs.Settled.{IsSettledOrNot};
 
 use api_replies::FirstVerdict;
 use profile_model::{MAX_TOTAL, Push, front, kept_total};
@@ -9,7 +10,7 @@ use profile_model::{MAX_TOTAL, Push, front, kept_total};
 pub(crate) fn settle(history: &mut Vec<Push>, push: Push) -> FirstVerdict
     requires { HasBoundedTotals history.old.items }
     ensures bounded { HasBoundedTotals history.new.items }
-    ensures settled { IsSettled history.old.items push result history.new.items }
+    ensures settled { IsSettledOrNot (2 ^ 63 - 1) history.old.items push result history.new.items }
 {
     let kept = kept_total(history, &push.tenant);
     let adds = push.total();

@@ -1,0 +1,38 @@
+// How a connection ended.
+ghost use Rattle.std.specs.Prelude.{◌≡◌};
+ghost use Rattle.pyro_server.specs.Statuses.{status_of};
+
+use crate::status::Status;
+use http_session::BadRequest;
+
+/// How one connection ended.
+#[derive(Clone, Copy, Debug, PartialEq, Eq)]
+pub enum Ending {
+    /// The input ended between two requests.
+    Done,
+    /// The last request asked for closing, and was answered.
+    Closed,
+    /// The last request that a connection may have, number 1,000,000, was answered.
+    LastRequest,
+    /// What came is no request, for this reason.
+    Refused(BadRequest),
+    /// Memory ran out while a request was read.
+    NoMemory,
+    /// The link counted a fault.
+    LinkFault,
+}
+
+impl Ending {
+    /// The status of a run whose one connection ended so.
+    pub fn status(self) -> Status
+        ensures { result ≡ status_of self }
+    {
+        match self {
+            Ending::Done | Ending::Closed => Status::Done,
+            Ending::LastRequest => Status::LastRequest,
+            Ending::Refused(_) => Status::BadRequest,
+            Ending::NoMemory => Status::NoMemory,
+            Ending::LinkFault => Status::StreamFault,
+        }
+    }
+}

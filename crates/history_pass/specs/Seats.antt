@@ -1,5 +1,5 @@
 -- Which seats a spine and its passes have.
-use Rattle.std.specs.Prelude.{ℕ, ◌≡◌, []}
+use Rattle.std.specs.Prelude.{ℕ, ◌≡◌, ◌<◌, ◌^◌, [], length}
 use Rattle.atomic_table.specs.Seated.{TableId}
 use Rattle.atomic_table.specs.Table.{Me}
 use Rattle.history_pass.specs.declared.view.Mark.{Mark}
@@ -17,3 +17,8 @@ pub record IsSpine (name table seat : TableId) (me : Me ℕ View) (m : Mark) : T
 pub record IsPass (name seat : TableId) (me : Me ℕ View) (m : Mark) : Type 0 where
   pub seat_is : seat ≡ name
   pub me_is : me ≡ (pass_at m, [])
+
+-- this is the length of the mark's list, which is below 2 ^ 63
+pub record IsCounted (m : Mark) (count : ℕ) : Type 0 where
+  pub count_is : count ≡ length m.list
+  pub small : count < 2 ^ 63

@@ -1,5 +1,5 @@
 // A pass.
-ghost use Rattle.std.specs.Prelude.{◌≡◌, length};
+ghost use Rattle.std.specs.Prelude.{◌≡◌, ◌<◌, ◌^◌, length};
 
 use crate::naming::Naming;
 use crate::view::View;
@@ -15,21 +15,21 @@ pub struct Pass<J: Naming> {
 }
 
 impl<J: Naming> Model for Pass<J> {
-    ghost use Rattle.std.specs.Prelude.{◌≡◌, length};
     ghost use Rattle.history_pass.specs.declared.view.Mark.{Mark};
-    ghost use Rattle.history_pass.specs.Seats.{IsPass};
+    ghost use Rattle.history_pass.specs.Seats.{IsPass, IsCounted};
 
     ghost Value = { Mark };
 
     ghost view = { λ p. p.seat.me.0.has };
 
-    ghost invariant = { λ p. IsPass J.spine p.seat.table_id p.seat.me p.seat.me.0.has × (p.count ≡ length p.seat.me.0.has.list) };
+    ghost invariant = { λ p. IsPass J.spine p.seat.table_id p.seat.me p.seat.me.0.has × IsCounted p.seat.me.0.has p.count };
 }
 
 impl<J: Naming> Pass<J> {
-    /// How many pushes were seen.
+    /// How many pushes were seen, which are fewer than 2^63.
     pub fn seen(&self) -> u64
-        ensures { result ≡ length self.now.list }
+        ensures count { result ≡ length self.now.list }
+        ensures small { result < 2 ^ 63 }
     {
         self.count
     }

@@ -52,6 +52,8 @@ impl BlankSpine {
             table,
             seat,
             count: 0,
+            faults: 0,
+            full: 0,
             of: PhantomData,
         };
         spine.extend(of);
@@ -65,22 +67,46 @@ pub struct Spine<J: Naming> {
     table: Table<u8, View, (), OneSpine, Global>,
     seat: Seat<u8, View>,
     count: u64,
+    faults: u64,
+    full: u64,
     of: PhantomData<J>,
 }
 
 impl<J: Naming> Model for Spine<J> {
-    ghost use Rattle.std.specs.Prelude.{◌≡◌, length};
+    ghost use Rattle.std.specs.Prelude.{◌≡◌};
     ghost use Rattle.history_pass.specs.declared.view.Mark.{Mark};
-    ghost use Rattle.history_pass.specs.Seats.{IsSpine};
+    ghost use Rattle.history_pass.specs.Seats.{IsSpine, IsCounted};
 
     ghost Value = { Mark };
 
     ghost view = { λ s. s.seat.me.0.has };
 
-    ghost invariant = { λ s. IsSpine J.spine s.table.shared.table_id s.seat.table_id s.seat.me s.seat.me.0.has × (s.count ≡ length s.seat.me.0.has.list) };
+    ghost invariant = { λ s. IsSpine J.spine s.table.shared.table_id s.seat.table_id s.seat.me s.seat.me.0.has × IsCounted s.seat.me.0.has s.count × (s.faults ≡ s.seat.me.0.has.faults) × (s.full ≡ s.seat.me.0.has.full) };
 }
 
 impl<J: Naming> Spine<J> {
+    /// How many pushes there are, which are fewer than 2^63.
+    pub fn seen(&self) -> u64
+        ensures count { result ≡ length self.now.list }
+        ensures small { result < 2 ^ 63 }
+    {
+        self.count
+    }
+
+    /// The count of faults that was told last, and 0 before any was.
+    pub fn faults(&self) -> u64
+        ensures { result ≡ self.now.faults }
+    {
+        self.faults
+    }
+
+    /// The other number that was told last, and 0 before any was.
+    pub fn full(&self) -> u64
+        ensures { result ≡ self.now.full }
+    {
+        self.full
+    }
+
     /// The pushes that a value stands for come to the end of the list, by one step.
     pub fn extend<S: Standing>(&mut self, by: &S)
         requires room { length self.old.list + length (S.list by.now) < 2 ^ 63 }
@@ -124,6 +150,7 @@ impl<J: Naming> Spine<J> {
     {
         let table = &self.table;
         table.shared.store::<TellsFaults>(&mut self.seat, 1, faults);
+        self.faults = faults;
     }
 
     fn tell_full(&mut self, full: u64)
@@ -132,6 +159,7 @@ impl<J: Naming> Spine<J> {
     {
         let table = &self.table;
         table.shared.store::<TellsFull>(&mut self.seat, 2, full);
+        self.full = full;
     }
 
     /// A pass that has all of it.

@@ -12,7 +12,7 @@ mod standing;
 mod tests;
 mod view;
 
-pub use laws::meetings_grow;
+pub use laws::{meetings_grow, runs_grow};
 pub use naming::Naming;
 pub use pass::Pass;
 pub use spine::{BlankSpine, Spine};

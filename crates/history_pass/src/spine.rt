@@ -1,6 +1,6 @@
 // The spine of a history.
 ghost use Rattle.std.specs.Prelude.{◌≡◌, ◌+◌, ◌<◌, ◌≤◌, ◌^◌, ◌++◌, length};
-ghost use Rattle.history_pass.specs.Marks.{grown, mark};
+ghost use Rattle.history_pass.specs.Marks.{grown, mark, Below};
 ghost use Rattle.history_pass.specs.Meetings.{Meets};
 
 use crate::naming::Naming;
@@ -182,13 +182,21 @@ impl<J: Naming> Spine<J> {
         ensures unchanged { self.new ≡ self.old }
     {
         let new = self.new_pass();
+        self.take_in(mem::replace(pass, new));
+    }
+
+    // It stays what it was; the load tells that the old pass was below it.
+    fn take_in(&mut self, old: Pass<J>)
+        ensures below { Below old self.old }
+        ensures unchanged { self.new ≡ self.old }
+    {
         let Pass {
-            seat: old,
+            seat,
             count: _,
             of: _,
-        } = mem::replace(pass, new);
+        } = old;
         let table = &self.table;
-        table.shared.join_seat::<TakesIn>(&mut self.seat, old);
+        table.shared.join_seat::<TakesIn>(&mut self.seat, seat);
         table.shared.load::<Learns>(&mut self.seat, 0);
     }
 }

@@ -3,7 +3,7 @@ use Rattle.atomic_table.specs.Table.{Me}
 use Rattle.history_pass.specs.declared.view.View.{View}
 use Rattle.history_pass.specs.Views.{spine_at, with_older}
 use Rattle.history_pass.proofs.StepLemmas.{takes_in, learns}
-use Rattle.history_pass.proofs.spine.Spine.meet.Goals as goal
+use Rattle.history_pass.proofs.spine.Spine.take_in.Goals as goal
 
 pub join_seat-requires : goal.join_seat-requires
 join_seat-requires g c =

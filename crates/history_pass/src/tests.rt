@@ -1,4 +1,4 @@
-ghost use Rattle.std.specs.Prelude.{◌≡◌, length};
+ghost use Rattle.std.specs.Prelude.{◌≡◌};
 
 use super::*;
 use profile_model::{Profiles, Push, Tenant};
@@ -41,101 +41,84 @@ fn hold(alloc: Global, count: u64) -> Result<Held, Fail> {
     Ok(Held { pushes })
 }
 
-// A spine as it grows, with its numbers.
-#[derive(Drop)]
-struct Growing<J: Naming> {
-    spine: Spine<J>,
-    count: u64,
-    faults: u64,
-    ghost counted: { (count ≡ length spine.list) × (faults ≡ spine.faults) × (spine.full ≡ 0) },
+fn open<J: Naming>(blank: BlankSpine, held: &Held) -> Option<Spine<J>>
+    requires { blank ≡ J.spine }
+{
+    if held.count() > MOST {
+        return None;
+    }
+    Some(blank.open(held))
 }
 
-impl<J: Naming> Growing<J> {
-    fn open(blank: BlankSpine, held: &Held) -> Option<Growing<J>>
-        requires { blank ≡ J.spine }
-    {
-        let count = held.count();
-        if count > MOST {
-            return None;
-        }
-        Some(Growing {
-            spine: blank.open(held),
-            count,
-            faults: 0,
-        })
+fn extend<J: Naming>(spine: &mut Spine<J>, held: &Held) {
+    if spine.seen() <= MOST && held.count() <= MOST {
+        spine.extend(held);
     }
+}
 
-    fn new_pass(&mut self) -> Pass<J> {
-        self.spine.new_pass()
+fn tell_fault<J: Naming>(spine: &mut Spine<J>) {
+    let faults = spine.faults();
+    let full = spine.full();
+    if faults < MOST {
+        spine.tell(faults + 1, full);
     }
+}
 
-    fn meet(&mut self, pass: &mut Pass<J>) {
-        self.spine.meet(pass);
-    }
-
-    fn extend(&mut self, held: &Held) {
-        let count = held.count();
-        if self.count <= MOST && count <= MOST {
-            self.spine.extend(held);
-            self.count += count;
-        }
-    }
-
-    fn tell(&mut self) {
-        if self.faults < MOST {
-            self.spine.tell(self.faults + 1, 0);
-            self.faults += 1;
-        }
+fn tell_full<J: Naming>(spine: &mut Spine<J>) {
+    let faults = spine.faults();
+    if spine.full() <= 1 {
+        spine.tell(faults, 1);
     }
 }
 
 #[derive(Clone, Copy, Drop)]
 enum Act {
     Extend(u64),
-    Tell,
+    Fault,
+    Full,
     Meet(usize),
 }
 
 fn perform<J: Naming>(
     alloc: Global,
-    growing: &mut Growing<J>,
+    spine: &mut Spine<J>,
     passes: &mut [Pass<J>],
     act: Act,
 ) -> Result<(), Fail> {
     match act {
-        Act::Extend(count) => growing.extend(&hold(alloc, count)?),
-        Act::Tell => growing.tell(),
+        Act::Extend(count) => extend(spine, &hold(alloc, count)?),
+        Act::Fault => tell_fault(spine),
+        Act::Full => tell_full(spine),
         Act::Meet(number) => {
             if number < passes.len() {
-                growing.meet(&mut passes[number]);
+                spine.meet(&mut passes[number]);
             }
         }
     }
     Ok(())
 }
 
-fn text_of<J: Naming>(alloc: Global, passes: &[Pass<J>]) -> Result<String, Fail> {
+// What each pass has seen, then what the spine has.
+fn text_of<J: Naming>(alloc: Global, spine: &Spine<J>, passes: &[Pass<J>]) -> Result<String, Fail> {
     let mut text = String::new(alloc);
     for pass in passes {
         text.push_str(format!(in alloc; "{} ", pass.seen())?.as_str())?;
     }
+    let last = format!(in alloc; "of {}, {}, {}", spine.seen(), spine.faults(), spine.full())?;
+    text.push_str(last.as_str())?;
     Ok(text)
 }
 
-// How much each of three passes of a spine has seen after these acts.
-fn seen_after<J: Naming>(
-    alloc: Global,
-    mut growing: Growing<J>,
-    acts: &[Act],
-) -> Result<String, Fail> {
+// The same of three passes of a spine after these acts.
+fn seen_after<J: Naming>(alloc: Global, mut spine: Spine<J>, acts: &[Act]) -> Result<String, Fail> {
     let mut passes = Vec::new(alloc);
     for _ in 0..3 {
-        passes.push(growing.new_pass())?;
+        passes.push(spine.new_pass())?;
     }
     for act in acts {
-        perform(alloc, &mut growing, passes.as_mut_slice(), *act)?;
+        perform(alloc, &mut spine, passes.as_mut_slice(), *act)?;
     }
-    text_of(alloc, passes.as_slice())
+    text_of(alloc, &spine, passes.as_slice())
 }
 
 // The same where the spine opens with so many pushes.
@@ -147,9 +130,9 @@ fn seen_as<J: Naming>(
 ) -> Result<String, Fail>
     requires { blank ≡ J.spine }
 {
-    let opened: Option<Growing<J>> = Growing::open(blank, &hold(alloc, opening)?);
+    let opened: Option<Spine<J>> = open(blank, &hold(alloc, opening)?);
     match opened {
-        Some(growing) => seen_after(alloc, growing, acts),
+        Some(spine) => seen_after(alloc, spine, acts),
         None => Ok(String::new(alloc)),
     }
 }
@@ -161,12 +144,12 @@ fn seen(alloc: Global, opening: u64, acts: &[Act], expected: &str) -> Result<boo
 
 #[test]
 fn a_pass_has_what_the_spine_had_when_they_met(rt: HostRuntime) -> Result<(), Fail> {
-    use Act::{Extend, Meet, Tell};
+    use Act::{Extend, Fault, Full, Meet};
 
     let alloc = rt.alloc();
     let table: [(u64, &[Act], &str); 5] = [
-        (0, &[], "0 0 0 "),
-        (2, &[Extend(3), Tell], "2 2 2 "),
+        (0, &[], "0 0 0 of 0, 0, 0"),
+        (2, &[Extend(3), Fault], "2 2 2 of 5, 1, 0"),
         (
             2,
             &[
@@ -174,11 +157,11 @@ fn a_pass_has_what_the_spine_had_when_they_met(rt: HostRuntime) -> Result<(), Fa
                 Meet(0),
                 Extend(1),
                 Meet(1),
-                Tell,
+                Fault,
                 Extend(1),
                 Meet(2),
             ],
-            "3 4 5 ",
+            "3 4 5 of 5, 1, 0",
         ),
         (
             2,
@@ -186,26 +169,27 @@ fn a_pass_has_what_the_spine_had_when_they_met(rt: HostRuntime) -> Result<(), Fa
                 Meet(2),
                 Extend(1),
                 Meet(2),
-                Tell,
+                Fault,
                 Meet(0),
                 Extend(2),
                 Meet(2),
             ],
-            "3 2 5 ",
+            "3 2 5 of 5, 1, 0",
         ),
         (
             7,
             &[
                 Extend(0),
                 Meet(1),
-                Tell,
-                Tell,
+                Fault,
+                Full,
+                Fault,
                 Meet(1),
                 Extend(1),
                 Meet(0),
                 Meet(1),
             ],
-            "8 8 7 ",
+            "8 8 7 of 8, 2, 1",
         ),
     ];
     for (opening, acts, expected) in table {
@@ -221,7 +205,7 @@ struct Walker<J: Naming> {
     fell: bool,
 }
 
-fn meet_often<J: Naming, R: Wait>(rt: &R, shared: &Mutex<Growing<J>>, walker: &mut Walker<J>) {
+fn meet_often<J: Naming, R: Wait>(rt: &R, shared: &Mutex<Spine<J>>, walker: &mut Walker<J>) {
     for _ in 0..ROUNDS {
         let before = walker.pass.seen();
         shared.lock(rt).meet(&mut walker.pass);
@@ -231,31 +215,31 @@ fn meet_often<J: Naming, R: Wait>(rt: &R, shared: &Mutex<Growing<J>>, walker: &m
     }
 }
 
-fn extend_often<J: Naming, R: Wait>(rt: &R, shared: &Mutex<Growing<J>>, held: &Held) {
+fn extend_often<J: Naming, R: Wait>(rt: &R, shared: &Mutex<Spine<J>>, held: &Held) {
     for _ in 0..ROUNDS {
-        let mut growing = shared.lock(rt);
-        growing.extend(held);
-        growing.tell();
+        let mut spine = shared.lock(rt);
+        extend(&mut spine, held);
+        tell_fault(&mut spine);
     }
 }
 
 // Whether the last meeting of each walker is with all that there is, and none of them fell.
-fn all_arrive<J: Naming>(mut growing: Growing<J>, walkers: &mut [Walker<J>]) -> bool {
-    let mut arrived = growing.count == ROUNDS + 1;
+fn all_arrive<J: Naming>(mut spine: Spine<J>, walkers: &mut [Walker<J>]) -> bool {
+    let mut arrived = spine.seen() == ROUNDS + 1 && spine.faults() == ROUNDS;
     for walker in walkers {
-        growing.meet(&mut walker.pass);
-        arrived = arrived && !walker.fell && walker.pass.seen() == growing.count;
+        spine.meet(&mut walker.pass);
+        arrived = arrived && !walker.fell && walker.pass.seen() == spine.seen();
     }
     arrived
 }
 
 fn meet_in_threads<J: Naming + Send + Sync, R: Threads + Wait + Sync>(
     rt: &R,
-    growing: Growing<J>,
+    spine: Spine<J>,
     mut walkers: Vec<Walker<J>>,
     one: &Held,
 ) -> bool {
-    let shared = Mutex::new(growing);
+    let shared = Mutex::new(spine);
     let lock = &shared;
     thread::join_mut(
         rt,
@@ -277,18 +261,18 @@ fn arrive_as<J: Naming + Send + Sync, R: Threads + Wait + Sync>(
 ) -> Result<bool, Fail>
     requires { blank ≡ J.spine }
 {
-    let opened: Option<Growing<J>> = Growing::open(blank, &hold(alloc, 1)?);
-    let Some(mut growing) = opened else {
+    let opened: Option<Spine<J>> = open(blank, &hold(alloc, 1)?);
+    let Some(mut spine) = opened else {
         return Ok(false);
     };
     let mut walkers = Vec::new(alloc);
     for _ in 0..8 {
         walkers.push(Walker {
-            pass: growing.new_pass(),
+            pass: spine.new_pass(),
             fell: false,
         })?;
     }
-    Ok(meet_in_threads(rt, growing, walkers, &hold(alloc, 1)?))
+    Ok(meet_in_threads(rt, spine, walkers, &hold(alloc, 1)?))
 }
 
 #[test]

@@ -5,14 +5,9 @@ use Rattle.std.proofs.lemmas.Option.{none-some, same_Some}
 use Rattle.history_pass.specs.declared.view.Mark.{Mark}
 use Rattle.history_pass.specs.Marks.{mark, grown, Below}
 use Rattle.history_pass.specs.Worlds.{World, world, Call, extend, tell, new_pass, meet, IsStep, AreBehind, Grows, RunsGrow}
-use Rattle.history_pass.proofs.MarkLemmas.{below_self, below_trans, below_grown, below_numbers}
+use Rattle.history_pass.proofs.MarkLemmas.{get_longer, below_self, below_trans, below_grown, below_numbers}
 
 -- ---- places of lists
-
-get_longer : {A : Type 0} (xs ys : List A) (at : ℕ) (z : A) → slice_get xs at ≡ Some z → slice_get (xs ++ ys) at ≡ Some z
-get_longer [] ys at z is = absurd (none-some z is)
-get_longer (x ∷ xs) ys zero z is = is
-get_longer (x ∷ xs) ys (suc at) z is = get_longer xs ys at z is
 
 get_snoc : {A : Type 0} (xs : List A) (y : A) (at : ℕ) (z : A) → slice_get (xs ++ y ∷ []) at ≡ Some z → (slice_get xs at ≡ Some z) ⊎ (y ≡ z)
 get_snoc [] y zero z is = inr (same_Some y z is)

@@ -1,0 +1,22 @@
+// Why an entry wasn't taken.
+use std::error::Error;
+use std::fmt;
+
+/// Why an entry wasn't taken.
+#[derive(Clone, Copy, Debug, PartialEq, Eq)]
+pub enum ApplyFault {
+    /// It neither follows the last entry nor stands in for a run, or its id isn't the next or a later one below 2^63.
+    NotARun,
+    Memory,
+}
+
+impl fmt::Display for ApplyFault {
+    fn fmt<W: fmt::Write>(&self, f: &mut fmt::Formatter<W>) -> fmt::Result {
+        match self {
+            ApplyFault::NotARun => write!(f, "the entry follows none and stands in for no run"),
+            ApplyFault::Memory => write!(f, "out of memory"),
+        }
+    }
+}
+
+impl Error for ApplyFault {}

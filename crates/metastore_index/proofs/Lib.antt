@@ -5,3 +5,4 @@ pub mod RunLemmas
 pub mod ChangeLemmas
 pub mod CoverLemmas
 pub mod BodyLemmas
+pub mod TakenLemmas

@@ -1,2 +1,4 @@
 pub mod Bodies
 pub mod Entries
+pub mod Laws
+pub mod Taken

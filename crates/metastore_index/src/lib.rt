@@ -8,12 +8,14 @@ mod changes;
 mod entry;
 mod fault;
 mod index;
+mod laws;
 mod number;
 mod runs;
 
 pub use entry::{Entry, MAX_LEVEL};
 pub use fault::ApplyFault;
 pub use index::Index;
+pub use laws::records_taken_in_turn;
 
 #[cfg(test)]
 mod tests;

@@ -1,0 +1,36 @@
+-- What holds of all records, taken in turn.
+use Rattle.std.specs.Prelude.{◌≡◌, ℕ, ◌^◌, ◌<◌, ◌≤◌, List, [], ◌∷◌, ◌++◌}
+use Rattle.std.specs.List.{All, AllPairs, Contains}
+use Rattle.metastore_index.specs.declared.entry.Entry.{Entry}
+use Rattle.metastore_index.specs.Entries.{AreEntries, IndexView}
+use Rattle.metastore_index.specs.Taken.{BodiesComeTo, ComesTo, IsBodyOf, Takes}
+
+-- no record comes to nothing
+abbrev pub NoneComeToNothing : Type 0
+NoneComeToNothing = (index : IndexView) → index.entries ≡ [] → index.greatest ≡ 0 → ComesTo [] index × BodiesComeTo [] index
+
+-- where the index that records come to takes one more, all of them come to what it leaves
+abbrev pub OneMoreComes : Type 0
+OneMoreComes =
+    (taken : List Entry) (index : IndexView) (entry : Entry) (next : IndexView) → ComesTo taken index → Takes index entry next
+    → ComesTo (taken ++ entry ∷ []) next
+
+-- and so do their bodies
+abbrev pub OneMoreBodyComes : Type 0
+OneMoreBodyComes =
+    (bodies : List (List ℕ)) (index : IndexView) (body : List ℕ) (entry : Entry) (next : IndexView) → BodiesComeTo bodies index
+    → IsBodyOf body entry → Takes index entry next → BodiesComeTo (bodies ++ body ∷ []) next
+
+-- the entries that live divide the pushes from 0 on, and no level is above an older one's
+abbrev pub LiveOnesDivide : Type 0
+LiveOnesDivide = (taken : List Entry) (index : IndexView) → ComesTo taken index → AreEntries index.entries
+
+-- each of them was taken
+abbrev pub LiveOnesWereTaken : Type 0
+LiveOnesWereTaken = (taken : List Entry) (index : IndexView) → ComesTo taken index → All (Contains taken) index.entries
+
+-- an id is above all older ones, and the greatest is the last, below 2^63
+abbrev pub IdsRise : Type 0
+IdsRise =
+    (taken : List Entry) (index : IndexView) → ComesTo taken index
+    → AllPairs (λ older newer. older.id < newer.id) taken × All (λ entry. entry.id ≤ index.greatest) taken × (index.greatest < 2 ^ 63)

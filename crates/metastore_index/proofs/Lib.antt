@@ -6,3 +6,4 @@ pub mod ChangeLemmas
 pub mod CoverLemmas
 pub mod BodyLemmas
 pub mod TakenLemmas
+pub mod HolderLemmas

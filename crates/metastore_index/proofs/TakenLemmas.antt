@@ -1,11 +1,11 @@
 -- What holds after each record holds after all of them.
 use Rattle.std.proofs.Common.{◌≡◌, ℕ, ◌^◌, ◌<◌, ◌≤◌, List, [], ◌∷◌, ◌++◌, refl, sym, subst, arith, All, AllPairs, append_assoc, append-nil}
-use Rattle.std.specs.List.{Contains}
+use Rattle.std.specs.List.{AllZip, Contains}
 use Rattle.std.proofs.lemmas.List.Elements.{All-push, All-weaker, Contains-append_left, Contains-append_right}
 use Rattle.std.proofs.lemmas.List.Quantifiers.{all_pairs_push}
 use Rattle.metastore_index.specs.declared.entry.Entry.{Entry}
 use Rattle.metastore_index.specs.Entries.{AreEntries, Becomes, HasPlace, IndexView}
-use Rattle.metastore_index.specs.Taken.{AreBodiesOf, ComesFrom, ComesTo, IsBodyOf, Takes, nothing}
+use Rattle.metastore_index.specs.Taken.{ComesFrom, ComesTo, IsBodyOf, Takes, nothing}
 use Rattle.metastore_index.specs.Laws.{NoneComeToNothing, OneMoreComes, OneMoreBodyComes, LiveOnesDivide, LiveOnesWereTaken, IdsRise}
 use Rattle.metastore_index.proofs.ChangeLemmas.{AreEntries-becomes, All-becomes}
 
@@ -54,7 +54,7 @@ none_come_to_nothing index entries greatest = ((entries, greatest), ([], tt, (en
 pub one_more_comes : OneMoreComes
 one_more_comes taken index entry next comes takes = one_more_from nothing taken index entry next comes takes
 
-bodies_push : (bodies : List (List ℕ)) (taken : List Entry) (body : List ℕ) (entry : Entry) → AreBodiesOf bodies taken → IsBodyOf body entry → AreBodiesOf (bodies ++ body ∷ []) (taken ++ entry ∷ [])
+bodies_push : (bodies : List (List ℕ)) (taken : List Entry) (body : List ℕ) (entry : Entry) → AllZip IsBodyOf bodies taken → IsBodyOf body entry → AllZip IsBodyOf (bodies ++ body ∷ []) (taken ++ entry ∷ [])
 bodies_push [] [] body entry are is = (is, tt)
 bodies_push [] (first ∷ later) body entry are is = absurd are
 bodies_push (one ∷ more) [] body entry are is = absurd are

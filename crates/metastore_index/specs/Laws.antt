@@ -2,7 +2,7 @@
 use Rattle.std.specs.Prelude.{◌≡◌, ℕ, ◌^◌, ◌<◌, ◌≤◌, List, [], ◌∷◌, ◌++◌}
 use Rattle.std.specs.List.{All, AllPairs, Contains}
 use Rattle.metastore_index.specs.declared.entry.Entry.{Entry}
-use Rattle.metastore_index.specs.Entries.{AreEntries, IndexView}
+use Rattle.metastore_index.specs.Entries.{AreEntries, Becomes, Covers, IndexView}
 use Rattle.metastore_index.specs.Taken.{BodiesComeTo, ComesTo, IsBodyOf, Takes}
 
 -- no record comes to nothing
@@ -34,3 +34,31 @@ abbrev pub IdsRise : Type 0
 IdsRise =
     (taken : List Entry) (index : IndexView) → ComesTo taken index
     → AllPairs (λ older newer. older.id < newer.id) taken × All (λ entry. entry.id ≤ index.greatest) taken × (index.greatest < 2 ^ 63)
+
+-- the entry's pushes have this one among them
+abbrev pub Holds : Entry → ℕ → Type 0
+Holds entry at = (entry.lo ≤ at) × (at < entry.hi)
+
+-- where an entry comes, each push that isn't its own is held by the same live entries as before
+abbrev pub OthersStay : Type 0
+OthersStay =
+    (entries : List Entry) (entry : Entry) (next : List Entry) → AreEntries entries → Becomes entries entry next
+    → (at : ℕ) (cover : Entry) → ¬ (Holds entry at) → (Covers entries at cover → Covers next at cover) × (Covers next at cover → Covers entries at cover)
+
+-- the pushes of the record are among those of one of these entries, whose level is no lower
+pub record IsWithin (live : List Entry) (entry : Entry) : Type 0 where
+  pub cover : Entry
+  pub among : Contains live cover
+  pub from : cover.lo ≤ entry.lo
+  pub until : entry.hi ≤ cover.hi
+  pub level : entry.level ≤ cover.level
+
+-- the pushes of each record stand together in one live entry
+abbrev pub LiveOnesCover : Type 0
+LiveOnesCover = (taken : List Entry) (index : IndexView) → ComesTo taken index → All (IsWithin index.entries) taken
+
+-- of two records that hold one push the later has the higher level
+abbrev pub LaterIsHigher : Type 0
+LaterIsHigher =
+    (taken : List Entry) (index : IndexView) → ComesTo taken index
+    → AllPairs (λ older newer. (at : ℕ) → Holds older at → Holds newer at → older.level < newer.level) taken

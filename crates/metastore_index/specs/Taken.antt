@@ -1,5 +1,6 @@
 -- What records come to, each taken in turn.
 use Rattle.std.specs.Prelude.{◌≡◌, ℕ, ◌^◌, ◌<◌, List, [], ◌∷◌}
+use Rattle.std.specs.List.{AllZip}
 use Rattle.metastore_index.specs.declared.entry.Entry.{Entry}
 use Rattle.metastore_index.specs.Bodies.{body_of}
 use Rattle.metastore_index.specs.Entries.{Becomes, IndexView, IsTaken}
@@ -32,12 +33,6 @@ pub record IsBodyOf (body : List ℕ) (entry : Entry) : Type 0 where
   pub tmin : entry.tmin < 2 ^ 64
   pub tmax : entry.tmax < 2 ^ 64
 
--- these bodies are the records of these entries, in their order
-abbrev pub AreBodiesOf : List (List ℕ) → List Entry → Type 0
-AreBodiesOf [] [] = Unit {0}
-AreBodiesOf (body ∷ more) (entry ∷ later) = IsBodyOf body entry × AreBodiesOf more later
-AreBodiesOf bodies entries = ⊥
-
 -- what the bodies of an index file come to
 abbrev pub BodiesComeTo : List (List ℕ) → IndexView → Type 0
-BodiesComeTo bodies index = (taken : List Entry) × AreBodiesOf bodies taken × ComesTo taken index
+BodiesComeTo bodies index = (taken : List Entry) × AllZip IsBodyOf bodies taken × ComesTo taken index

@@ -1,5 +1,5 @@
 //! What holds of all records of an index.
-ghost use Rattle.metastore_index.specs.Laws.{NoneComeToNothing, OneMoreComes, OneMoreBodyComes, LiveOnesDivide, LiveOnesWereTaken, IdsRise};
+ghost use Rattle.metastore_index.specs.Laws.{NoneComeToNothing, OneMoreComes, OneMoreBodyComes, LiveOnesDivide, LiveOnesWereTaken, IdsRise, OthersStay, LiveOnesCover, LaterIsHigher};
 
 /// What records come to, each taken in turn. It does nothing: its clauses are the laws.
 pub fn records_taken_in_turn()
@@ -9,4 +9,12 @@ pub fn records_taken_in_turn()
     ensures divide { LiveOnesDivide }
     ensures taken { LiveOnesWereTaken }
     ensures ids { IdsRise }
+{}
+
+/// Which entries hold a push, before a record and after it, and over all records. It does nothing: its clauses are the
+/// laws.
+pub fn holders_of_a_push()
+    ensures others { OthersStay }
+    ensures live { LiveOnesCover }
+    ensures higher { LaterIsHigher }
 {}

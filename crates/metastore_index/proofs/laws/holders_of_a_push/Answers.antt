@@ -1,0 +1,11 @@
+use Rattle.metastore_index.proofs.HolderLemmas.{others_stay, live_ones_cover, later_is_higher}
+use Rattle.metastore_index.proofs.laws.holders_of_a_push.Goals as goal
+
+pub returns-clause-others : goal.returns-clause-others
+returns-clause-others c = others_stay
+
+pub returns-clause-live : goal.returns-clause-live
+returns-clause-live c = live_ones_cover
+
+pub returns-clause-higher : goal.returns-clause-higher
+returns-clause-higher c = later_is_higher

@@ -28,7 +28,7 @@ body_is body lo hi id size tmin tmax long a b c d e f zeros =
     (part_at body 40 tmax f ∙ ap (λ (l : List ℕ). bytes_high_first 8 tmax ++ l)
     (drop_more body 48 0 (omega arith) ∙ ap (λ (l : List ℕ). get_or body 48 0 ∷ l) zeros))))))
 
-same_number : (m n : ℕ) → m < 2 ^ 64 → n < 2 ^ 64 → bytes_high_first 8 m ≡ bytes_high_first 8 n → m ≡ n
+pub same_number : (m n : ℕ) → m < 2 ^ 64 → n < 2 ^ 64 → bytes_high_first 8 m ≡ bytes_high_first 8 n → m ≡ n
 same_number m n low within same =
     sym (from_be_bytes-to_be_bytes_8 m low) ∙ ap (from_be_bytes w64) same ∙ from_be_bytes-to_be_bytes_8 n within
 

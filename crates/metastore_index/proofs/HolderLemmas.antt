@@ -17,7 +17,7 @@ record Between (lo hi : ℕ) (entry : Entry) : Type 0 where
   from : lo ≤ entry.lo
   until : entry.hi ≤ hi
 
-end_rises : (start : ℕ) (entries : List Entry) → DivideFrom start entries → start ≤ end_from start entries
+pub end_rises : (start : ℕ) (entries : List Entry) → DivideFrom start entries → start ≤ end_from start entries
 end_rises start [] divide = omega arith
 end_rises start (entry ∷ more) divide = omega (arith, divide.0, entry.some, end_rises entry.hi more divide.1)
 
@@ -160,7 +160,7 @@ higher entries entry next x are (stands front run back parts high over is) w at 
     by_part (in_run from until level) = omega (arith, level, w.level, high)
     by_part (in_back here above) = absurd (omega (arith, above, w.from, old.0, new.1))
 
-abbrev Higher : Entry → Entry → Type 0
+abbrev pub Higher : Entry → Entry → Type 0
 Higher older newer = (at : ℕ) → Holds older at → Holds newer at → older.level < newer.level
 
 abbrev Layered : Said

@@ -7,3 +7,6 @@ pub mod CoverLemmas
 pub mod BodyLemmas
 pub mod TakenLemmas
 pub mod HolderLemmas
+pub mod FourLemmas
+pub mod OneIndexLemmas
+pub mod EndLemmas

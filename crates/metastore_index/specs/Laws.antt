@@ -1,8 +1,8 @@
 -- What holds of all records, taken in turn.
-use Rattle.std.specs.Prelude.{◌≡◌, ℕ, ◌^◌, ◌<◌, ◌≤◌, List, [], ◌∷◌, ◌++◌}
-use Rattle.std.specs.List.{All, AllPairs, Contains}
+use Rattle.std.specs.Prelude.{◌≡◌, ℕ, ◌^◌, ◌<◌, ◌≤◌, leb, ltb, ◌&&◌, List, [], ◌∷◌, ◌++◌, length}
+use Rattle.std.specs.List.{All, AllPairs, Contains, filter}
 use Rattle.metastore_index.specs.declared.entry.Entry.{Entry}
-use Rattle.metastore_index.specs.Entries.{AreEntries, Becomes, Covers, IndexView}
+use Rattle.metastore_index.specs.Entries.{AreEntries, Becomes, Covers, IndexView, IsTaken, end_of}
 use Rattle.metastore_index.specs.Taken.{BodiesComeTo, ComesTo, IsBodyOf, Takes}
 
 -- no record comes to nothing
@@ -35,6 +35,12 @@ IdsRise =
     (taken : List Entry) (index : IndexView) → ComesTo taken index
     → AllPairs (λ older newer. older.id < newer.id) taken × All (λ entry. entry.id ≤ index.greatest) taken × (index.greatest < 2 ^ 63)
 
+-- a record of level 0 takes the end from its first push to behind its last, and any other leaves it
+abbrev pub EndMoves : Type 0
+EndMoves =
+    (entries : List Entry) (entry : Entry) (next : List Entry) → Becomes entries entry next
+    → (entry.level ≡ 0 → (entry.lo ≡ end_of entries) × (end_of next ≡ entry.hi)) × (1 ≤ entry.level → end_of next ≡ end_of entries)
+
 -- the entry's pushes have this one among them
 abbrev pub Holds : Entry → ℕ → Type 0
 Holds entry at = (entry.lo ≤ at) × (at < entry.hi)
@@ -62,3 +68,28 @@ abbrev pub LaterIsHigher : Type 0
 LaterIsHigher =
     (taken : List Entry) (index : IndexView) → ComesTo taken index
     → AllPairs (λ older newer. (at : ℕ) → Holds older at → Holds newer at → older.level < newer.level) taken
+
+-- at most four records hold one push
+abbrev pub AtMostFourHold : Type 0
+AtMostFourHold =
+    (taken : List Entry) (index : IndexView) → ComesTo taken index → (at : ℕ)
+    → length (filter (λ entry. leb entry.lo at && ltb at entry.hi) taken) ≤ 4
+
+-- the same entries live, and the greatest id is the same
+pub record IsSameIndex (index other : IndexView) : Type 0 where
+  pub entries : index.entries ≡ other.entries
+  pub greatest : index.greatest ≡ other.greatest
+
+-- records come to one index
+abbrev pub OneIndex : Type 0
+OneIndex = (taken : List Entry) (index other : IndexView) → ComesTo taken index → ComesTo taken other → IsSameIndex index other
+
+-- and so do bodies, whoever reads them
+abbrev pub OneIndexOfBodies : Type 0
+OneIndexOfBodies = (bodies : List (List ℕ)) (index other : IndexView) → BodiesComeTo bodies index → BodiesComeTo bodies other → IsSameIndex index other
+
+-- whoever reads the bodies of an index file in turn can take each
+abbrev pub NextIsTaken : Type 0
+NextIsTaken =
+    (bodies : List (List ℕ)) (body : List ℕ) (more : List (List ℕ)) (index last : IndexView) (entry : Entry)
+    → BodiesComeTo (bodies ++ body ∷ more) last → BodiesComeTo bodies index → IsBodyOf body entry → IsTaken index entry

@@ -1,5 +1,5 @@
 //! What holds of all records of an index.
-ghost use Rattle.metastore_index.specs.Laws.{NoneComeToNothing, OneMoreComes, OneMoreBodyComes, LiveOnesDivide, LiveOnesWereTaken, IdsRise, OthersStay, LiveOnesCover, LaterIsHigher};
+ghost use Rattle.metastore_index.specs.Laws.{NoneComeToNothing, OneMoreComes, OneMoreBodyComes, LiveOnesDivide, LiveOnesWereTaken, IdsRise, EndMoves, OthersStay, LiveOnesCover, LaterIsHigher, AtMostFourHold, OneIndex, OneIndexOfBodies, NextIsTaken};
 
 /// What records come to, each taken in turn. It does nothing: its clauses are the laws.
 pub fn records_taken_in_turn()
@@ -9,6 +9,7 @@ pub fn records_taken_in_turn()
     ensures divide { LiveOnesDivide }
     ensures taken { LiveOnesWereTaken }
     ensures ids { IdsRise }
+    ensures end { EndMoves }
 {}
 
 /// Which entries hold a push, before a record and after it, and over all records. It does nothing: its clauses are the
@@ -17,4 +18,12 @@ pub fn holders_of_a_push()
     ensures others { OthersStay }
     ensures live { LiveOnesCover }
     ensures higher { LaterIsHigher }
+    ensures four { AtMostFourHold }
+{}
+
+/// Records come to one index, whoever reads them. It does nothing: its clauses are the laws.
+pub fn one_index()
+    ensures one { OneIndex }
+    ensures bodies { OneIndexOfBodies }
+    ensures next { NextIsTaken }
 {}

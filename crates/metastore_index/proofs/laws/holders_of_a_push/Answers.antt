@@ -1,4 +1,5 @@
 use Rattle.metastore_index.proofs.HolderLemmas.{others_stay, live_ones_cover, later_is_higher}
+use Rattle.metastore_index.proofs.FourLemmas.{at_most_four_hold}
 use Rattle.metastore_index.proofs.laws.holders_of_a_push.Goals as goal
 
 pub returns-clause-others : goal.returns-clause-others
@@ -9,3 +10,6 @@ returns-clause-live c = live_ones_cover
 
 pub returns-clause-higher : goal.returns-clause-higher
 returns-clause-higher c = later_is_higher
+
+pub returns-clause-four : goal.returns-clause-four
+returns-clause-four c = at_most_four_hold

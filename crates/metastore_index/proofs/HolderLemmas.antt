@@ -13,26 +13,26 @@ use Rattle.metastore_index.proofs.DivideLemmas.{DivideFrom-first, DivideFrom-sec
 use Rattle.metastore_index.proofs.TakenLemmas.{Said, kept}
 
 -- the entry's pushes lie between the two
-record Between (lo hi : ℕ) (entry : Entry) : Type 0 where
-  from : lo ≤ entry.lo
-  until : entry.hi ≤ hi
+pub record Between (lo hi : ℕ) (entry : Entry) : Type 0 where
+  pub from : lo ≤ entry.lo
+  pub until : entry.hi ≤ hi
 
 pub end_rises : (start : ℕ) (entries : List Entry) → DivideFrom start entries → start ≤ end_from start entries
 end_rises start [] divide = omega arith
 end_rises start (entry ∷ more) divide = omega (arith, divide.0, entry.some, end_rises entry.hi more divide.1)
 
-between : (start : ℕ) (entries : List Entry) → DivideFrom start entries → All (Between start (end_from start entries)) entries
+pub between : (start : ℕ) (entries : List Entry) → DivideFrom start entries → All (Between start (end_from start entries)) entries
 between start [] divide = All-nil (Between start start)
 between start (entry ∷ more) divide =
     let end = end_from entry.hi more in
     All-cons (Between start end) entry more (record { from = omega (arith, divide.0); until = end_rises entry.hi more divide.1 })
     (All-weaker (Between entry.hi end) (Between start end) (λ x b. record { from = omega (arith, divide.0, entry.some, b.from); until = b.until }) more (between entry.hi more divide.1))
 
-first_or_later : (first : Entry) (later : List Entry) (x : Entry) → Contains (first ∷ later) x → (first ≡ x) ⊎ Contains later x
+pub first_or_later : (first : Entry) (later : List Entry) (x : Entry) → Contains (first ∷ later) x → (first ≡ x) ⊎ Contains later x
 first_or_later first later x (zero, within, same) = inl same
 first_or_later first later x (suc k, within, same) = inr (k, omega (arith, within), same)
 
-none_within : (x : Entry) → Contains [] x → ⊥
+pub none_within : (x : Entry) → Contains [] x → ⊥
 none_within x (k, within, same) = omega (arith, within)
 
 -- where one of the entries stands that a run divides
@@ -66,7 +66,7 @@ part_of front run back level lo hi x are over among =
 there : (front : List Entry) (entry : Entry) (back : List Entry) → Contains (front ++ entry ∷ back) entry
 there front entry back = Contains-append_right front (entry ∷ back) entry (0, omega arith, refl)
 
-later_one : (entry : Entry) (back : List Entry) (x : Entry) → Contains back x → Contains (entry ∷ back) x
+pub later_one : (entry : Entry) (back : List Entry) (x : Entry) → Contains back x → Contains (entry ∷ back) x
 later_one entry back x (k, within, same) = (suc k, omega (arith, within), same)
 
 behind : (front : List Entry) (entry : Entry) (back : List Entry) (x : Entry) → Contains back x → Contains (front ++ entry ∷ back) x

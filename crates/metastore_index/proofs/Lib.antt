@@ -10,3 +10,4 @@ pub mod HolderLemmas
 pub mod FourLemmas
 pub mod OneIndexLemmas
 pub mod EndLemmas
+pub mod OnceLemmas

@@ -29,7 +29,7 @@ LiveOnesDivide = (taken : List Entry) (index : IndexView) → ComesTo taken inde
 abbrev pub LiveOnesWereTaken : Type 0
 LiveOnesWereTaken = (taken : List Entry) (index : IndexView) → ComesTo taken index → All (Contains taken) index.entries
 
--- an id is above all older ones, and the greatest is the last, below 2^63
+-- an id is above all older ones, and none is above the greatest, which is below 2^63
 abbrev pub IdsRise : Type 0
 IdsRise =
     (taken : List Entry) (index : IndexView) → ComesTo taken index
@@ -44,6 +44,15 @@ EndMoves =
 -- the entry's pushes have this one among them
 abbrev pub Holds : Entry → ℕ → Type 0
 Holds entry at = (entry.lo ≤ at) × (at < entry.hi)
+
+-- each push before the end is held by one of the entries, and by no other
+pub record IsHeldOnce (entries : List Entry) (at : ℕ) : Type 0 where
+  pub some : at < end_of entries → (cover : Entry) × Covers entries at cover
+  pub before : (cover : Entry) → Covers entries at cover → at < end_of entries
+  pub one : (cover other : Entry) → Covers entries at cover → Covers entries at other → cover ≡ other
+
+abbrev pub EachIsHeldOnce : Type 0
+EachIsHeldOnce = (entries : List Entry) → AreEntries entries → (at : ℕ) → IsHeldOnce entries at
 
 -- where an entry comes, each push that isn't its own is held by the same live entries as before
 abbrev pub OthersStay : Type 0
@@ -68,6 +77,12 @@ abbrev pub LaterIsHigher : Type 0
 LaterIsHigher =
     (taken : List Entry) (index : IndexView) → ComesTo taken index
     → AllPairs (λ older newer. (at : ℕ) → Holds older at → Holds newer at → older.level < newer.level) taken
+
+-- and the live one has the pushes of each record that holds this one, and the highest level of them
+abbrev pub LiveOneIsHighest : Type 0
+LiveOneIsHighest =
+    (taken : List Entry) (index : IndexView) → ComesTo taken index → (at : ℕ) (cover : Entry) → Covers index.entries at cover
+    → All (λ entry. Holds entry at → (cover.lo ≤ entry.lo) × (entry.hi ≤ cover.hi) × (entry.level ≤ cover.level)) taken
 
 -- at most four records hold one push
 abbrev pub AtMostFourHold : Type 0

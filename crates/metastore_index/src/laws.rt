@@ -1,5 +1,5 @@
 //! What holds of all records of an index.
-ghost use Rattle.metastore_index.specs.Laws.{NoneComeToNothing, OneMoreComes, OneMoreBodyComes, LiveOnesDivide, LiveOnesWereTaken, IdsRise, EndMoves, OthersStay, LiveOnesCover, LaterIsHigher, AtMostFourHold, OneIndex, OneIndexOfBodies, NextIsTaken};
+ghost use Rattle.metastore_index.specs.Laws.{NoneComeToNothing, OneMoreComes, OneMoreBodyComes, LiveOnesDivide, LiveOnesWereTaken, IdsRise, EndMoves, EachIsHeldOnce, OthersStay, LiveOnesCover, LaterIsHigher, LiveOneIsHighest, AtMostFourHold, OneIndex, OneIndexOfBodies, NextIsTaken};
 
 /// What records come to, each taken in turn. It does nothing: its clauses are the laws.
 pub fn records_taken_in_turn()
@@ -15,9 +15,11 @@ pub fn records_taken_in_turn()
 /// Which entries hold a push, before a record and after it, and over all records. It does nothing: its clauses are the
 /// laws.
 pub fn holders_of_a_push()
+    ensures once { EachIsHeldOnce }
     ensures others { OthersStay }
     ensures live { LiveOnesCover }
     ensures higher { LaterIsHigher }
+    ensures highest { LiveOneIsHighest }
     ensures four { AtMostFourHold }
 {}
 

@@ -26,7 +26,7 @@ returns-then-entries-end-2-clause-found c =
       run_found entries c.args.level c.args.lo c.args.hi start end c.requires
           (searched (goal.at.returns-then-entries-end-2-clause-found c).After-count_before-end) c.index-entries-start.result (record {
             some = some;
-            from = λ d. ap (λ (entry : Entry). entry.lo) (get_or_default entries start d c.index-entries-start.result (omega arith)) ∙ c.if-entries-start.true;
+            from = λ d. omega (arith, ap (λ (entry : Entry). entry.lo) (get_or_default entries start d c.index-entries-start.result (omega arith)), c.if-entries-start.true);
             until = λ d. ap (λ (entry : Entry). entry.hi) (get_or_default entries (end - 1) d c.index-entries-end.result (omega arith)) ∙ c.if-entries-end.true;
             alike = λ d. ap (λ (entry : Entry). entry.level) (get_or_default entries (end - 1) d c.index-entries-end-then-entries-end.result (omega arith)) ∙ c.if-entries-end-2.true;
           }),
@@ -41,6 +41,6 @@ returns-else-start-end-clause-none c _ has =
       | else-start-end-via-then-start-end+then-entries-start+else-entries-end w ↦
           w.if-entries-end.false (span.until w.index-entries-end.result)
       | else-start-end-via-then-start-end+else-entries-start w ↦
-          w.if-entries-start.false (span.from w.index-entries-start.result)
+          omega (arith, span.from w.index-entries-start.result, w.if-entries-start.false)
       | else-start-end-via-else-start-end w ↦ omega (arith, span.some, w.if-start-end.false)
     ]

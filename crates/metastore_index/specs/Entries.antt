@@ -27,7 +27,8 @@ pub record IsRunOver (before run after : List Entry) (level lo hi : ℕ) : Type 
   pub from : end_of before ≡ lo
   pub until : end_of (before ++ run) ≡ hi
 
--- the index, as contracts see it: its entries, the greatest id that it ever took, and how many more it takes without memory
+-- the index, as contracts see it: its entries, the greatest id that it ever took, and how many more it has room for; an
+-- entry that it takes leaves room for at most one fewer
 pub record IndexView : Type 0 where
   pub entries : List Entry
   pub greatest : ℕ

@@ -1,5 +1,5 @@
 // What an entry makes of the others.
-ghost use Rattle.std.specs.Prelude.{◌≡◌, [], ◌∷◌, ◌++◌, ◌-◌, ◌≤◌, IsErrOf, OnErr, OnOk, length};
+ghost use Rattle.std.specs.Prelude.{◌≡◌, [], ◌∷◌, ◌++◌, ◌+◌, ◌-◌, ◌≤◌, IsErrOf, OnErr, OnOk, length};
 ghost use Rattle.metastore_index.specs.Entries.{AreEntries, Becomes, Follows, HasPlace, HasRun};
 
 use crate::entry::Entry;
@@ -11,8 +11,10 @@ pub(crate) fn take_in(entries: &mut Vec<Entry>, entry: Entry) -> Result<(), Appl
     requires { AreEntries entries.old.items }
     ensures ok { OnOk result (HasPlace entries.old.items entry × Becomes entries.old.items entry entries.new.items) }
     ensures refused { IsErrOf result ApplyFault.NotARun → ¬ (HasPlace entries.old.items entry) }
-    ensures memory { IsErrOf result ApplyFault.Memory → entries.old.cap ≤ length entries.old.items }
+    ensures memory { IsErrOf result ApplyFault.Memory → (entries.old.cap ≤ length entries.old.items) × Follows entries.old.items entry }
     ensures unchanged { OnErr result (entries.new.items ≡ entries.old.items) }
+    ensures no_less { OnErr result (entries.old.cap ≤ entries.new.cap) }
+    ensures spare { OnOk result (entries.old.cap - length entries.old.items ≤ entries.new.cap - length entries.new.items + 1) }
 {
     if entry.level == 0 {
         append(entries, entry)
@@ -26,8 +28,10 @@ fn append(entries: &mut Vec<Entry>, entry: Entry) -> Result<(), ApplyFault>
     requires { entry.level ≡ 0 }
     ensures ok { OnOk result (Follows entries.old.items entry × Becomes entries.old.items entry entries.new.items) }
     ensures refused { IsErrOf result ApplyFault.NotARun → ¬ (Follows entries.old.items entry) }
-    ensures memory { IsErrOf result ApplyFault.Memory → entries.old.cap ≤ length entries.old.items }
+    ensures memory { IsErrOf result ApplyFault.Memory → (entries.old.cap ≤ length entries.old.items) × Follows entries.old.items entry }
     ensures unchanged { OnErr result (entries.new.items ≡ entries.old.items) }
+    ensures no_less { OnErr result (entries.old.cap ≤ entries.new.cap) }
+    ensures spare { OnOk result (entries.old.cap - length entries.old.items ≤ entries.new.cap - length entries.new.items + 1) }
 {
     if entry.lo != end_of(entries) {
         return Err(ApplyFault::NotARun);
@@ -47,6 +51,8 @@ fn stand_in(entries: &mut Vec<Entry>, entry: Entry) -> Result<(), ApplyFault>
     ensures refused { IsErrOf result ApplyFault.NotARun → ¬ (HasRun entries.old.items (entry.level - 1) entry.lo entry.hi) }
     ensures memory { IsErrOf result ApplyFault.Memory → ⊥ }
     ensures unchanged { OnErr result (entries.new.items ≡ entries.old.items) }
+    ensures no_less { OnErr result (entries.old.cap ≤ entries.new.cap) }
+    ensures spare { OnOk result (entries.old.cap - length entries.old.items ≤ entries.new.cap - length entries.new.items) }
 {
     let Some((start, end)) = find_run(entries, entry.level - 1, entry.lo, entry.hi) else {
         return Err(ApplyFault::NotARun);

@@ -13,7 +13,10 @@ pub enum ApplyFault {
 impl fmt::Display for ApplyFault {
     fn fmt<W: fmt::Write>(&self, f: &mut fmt::Formatter<W>) -> fmt::Result {
         match self {
-            ApplyFault::NotARun => write!(f, "the entry follows none and stands in for no run"),
+            ApplyFault::NotARun => write!(
+                f,
+                "the entry's id isn't a new one below 2^63, or it neither follows the last entry nor stands in for a run"
+            ),
             ApplyFault::Memory => write!(f, "out of memory"),
         }
     }

@@ -1,6 +1,8 @@
 // The live entries.
-ghost use Rattle.std.specs.Prelude.{◌≡◌, ℕ, ◌+◌, ◌<◌, ◌≤◌, [], IfOk, IfSome, IsNone, IsErrOf, OnOk, OnErr};
+ghost use Rattle.std.specs.Prelude.{◌≡◌, ℕ, ◌+◌, ◌^◌, ◌<◌, ◌≤◌, List, [], ◌∷◌, ◌++◌, IfOk, IfSome, IsNone, IsErrOf, OnOk, OnErr};
+ghost use Rattle.std.specs.List.{All};
 ghost use Rattle.metastore_index.specs.Entries.{AreEntries, Becomes, Covers, HasRun, IsTaken, end_of};
+ghost use Rattle.metastore_index.specs.Taken.{ComesTo};
 
 use crate::changes::take_in;
 use crate::entry::Entry;
@@ -36,6 +38,7 @@ impl Index {
     pub fn new(alloc: Global) -> Index
         ensures entries { result.entries ≡ [] }
         ensures greatest { result.greatest ≡ 0 }
+        ensures comes { ComesTo [] result }
     {
         Index {
             entries: Vec::new(alloc),
@@ -48,17 +51,22 @@ impl Index {
         ensures entries { self.new.entries ≡ self.old.entries }
         ensures greatest { self.new.greatest ≡ self.old.greatest }
         ensures room { OnOk result (0 < self.new.spare) }
+        ensures no_less { self.old.spare ≤ self.new.spare }
+        ensures err { OnErr result ((self.new.spare ≡ self.old.spare) × (self.old.spare ≡ 0)) }
     {
         self.entries.reserve(1)
     }
 
     /// Takes an entry of level 0 that follows the last one, or one that stands in for a run of the level below its own.
-    /// `Memory` comes only without room.
+    /// `Memory` comes only without room, at an entry of level 0 that would be taken.
     pub fn apply(&mut self, entry: Entry) -> Result<(), ApplyFault>
         ensures ok { OnOk result (IsTaken self.old entry × Becomes self.old.entries entry self.new.entries × (self.new.greatest ≡ entry.id)) }
         ensures refused { IsErrOf result ApplyFault.NotARun → ¬ (IsTaken self.old entry) }
-        ensures memory { IsErrOf result ApplyFault.Memory → self.old.spare ≡ 0 }
+        ensures memory { IsErrOf result ApplyFault.Memory → (self.old.spare ≡ 0) × (entry.level ≡ 0) × IsTaken self.old entry }
+        ensures spare { OnOk result (self.old.spare ≤ self.new.spare + 1) }
+        ensures no_less { OnErr result (self.old.spare ≤ self.new.spare) }
         ensures unchanged { OnErr result ((self.new.entries ≡ self.old.entries) × (self.new.greatest ≡ self.old.greatest)) }
+        ensures comes { (taken : List Entry) → ComesTo taken self.old → OnOk result (ComesTo (taken ++ entry ∷ []) self.new) }
     {
         if entry.id <= self.greatest || entry.id > MAX_ID {
             return Err(ApplyFault::NotARun);
@@ -88,6 +96,7 @@ impl Index {
     pub fn entries(&self) -> &[Entry]
         ensures entries { result.now ≡ self.now.entries }
         ensures sound { AreEntries self.now.entries }
+        ensures ids { All (λ entry. entry.id ≤ self.now.greatest) self.now.entries }
     {
         &self.entries
     }
@@ -101,7 +110,8 @@ impl Index {
 
     /// One above the greatest id that was ever taken. It takes no memory.
     pub fn next_id(&self) -> u64
-        ensures { result ≡ self.now.greatest + 1 }
+        ensures next { result ≡ self.now.greatest + 1 }
+        ensures bounded { result ≤ 2 ^ 63 }
     {
         self.greatest + 1
     }

@@ -2,6 +2,7 @@ use Rattle.std.proofs.Common.{◌≤◌, refl, arith}
 use Rattle.std.proofs.lemmas.List.Elements.{All-weaker}
 use Rattle.metastore_index.specs.declared.entry.Entry.{Entry}
 use Rattle.metastore_index.proofs.ChangeLemmas.{AreEntries-becomes, All-becomes}
+use Rattle.metastore_index.proofs.TakenLemmas.{one_more_comes}
 use Rattle.metastore_index.proofs.index.Index.apply.Goals as goal
 
 pub invariant_of-self-2 : goal.invariant_of-self-2
@@ -19,3 +20,9 @@ pub returns-clause-ok : goal.returns-clause-ok
 returns-clause-ok c =
     let taken = c.in_ok-take_in.ensures.ok in
     rw (← c.self.view_is) (record { later = omega arith; bounded = omega arith; fits = taken.0 }, taken.1, refl)
+
+pub returns-clause-comes : goal.returns-clause-comes
+returns-clause-comes c =
+    let takes = c.in_ok-take_in.ensures.ok in
+    rw (← c.self.view_is) (λ taken comes. one_more_comes taken _ c.args.entry _ comes
+    (record { taken = record { later = omega arith; bounded = omega arith; fits = takes.0 }; becomes = takes.1; greatest = refl }))

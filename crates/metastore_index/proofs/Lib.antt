@@ -11,3 +11,5 @@ pub mod FourLemmas
 pub mod OneIndexLemmas
 pub mod EndLemmas
 pub mod OnceLemmas
+pub mod FrontLemmas
+pub mod BoundaryLemmas

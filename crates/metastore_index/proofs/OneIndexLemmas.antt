@@ -8,7 +8,7 @@ use Rattle.metastore_index.specs.Bodies.{body_of}
 use Rattle.metastore_index.specs.Entries.{AreEntries, Becomes, DivideFrom, HasPlace, IndexView, IsRunOver, IsTaken}
 use Rattle.metastore_index.specs.Entries.Becomes.{follows, stands}
 use Rattle.metastore_index.specs.Taken.{ComesFrom, ComesTo, IsBodyOf, Takes, nothing}
-use Rattle.metastore_index.specs.Laws.{IsSameIndex, NextIsTaken, OneIndex, OneIndexOfBodies}
+use Rattle.metastore_index.specs.Laws.{IsSameIndex, NextIsTaken, OneIndex, OneIndexOfBodies, OneRun}
 use Rattle.metastore_index.proofs.BodyLemmas.{same_number}
 use Rattle.metastore_index.proofs.ChangeLemmas.{AreEntries-becomes}
 use Rattle.metastore_index.proofs.DivideLemmas.{DivideFrom-first, end_from, end_of-from}
@@ -48,6 +48,28 @@ same_stand entries entry front run back front' run' back' are parts over parts' 
     (sym (append_assoc front run back) ∙ whole ∙ append_assoc front' run' back')
     (sym (end_of-from front) ∙ over.from ∙ sym over'.from ∙ end_of-from front') in
     ap (λ (l : List Entry). l ++ entry ∷ back) before.0 ∙ ap (λ (l : List Entry). front' ++ entry ∷ l) behind.1
+
+one_level : (entries front : List Entry) (first : Entry) (rest back front' : List Entry) (first' : Entry) (rest' back' : List Entry) (lo hi level other : ℕ) → AreEntries entries
+    → entries ≡ front ++ first ∷ rest ++ back → IsRunOver front (first ∷ rest) back level lo hi
+    → entries ≡ front' ++ first' ∷ rest' ++ back' → IsRunOver front' (first' ∷ rest') back' other lo hi
+    → level ≡ other
+one_level entries front first rest back front' first' rest' back' lo hi level other are parts over parts' over' =
+    let whole = sym (append_assoc front (first ∷ rest) back) ∙ sym parts ∙ parts' ∙ append_assoc front' (first' ∷ rest') back' in
+    let divide : DivideFrom 0 (front ++ (first ∷ rest ++ back)) = subst (DivideFrom 0) (parts ∙ append_assoc front (first ∷ rest) back) are.divide in
+    let behind = same_parts 0 front front' (first ∷ rest ++ back) (first' ∷ rest' ++ back') divide whole
+    (sym (end_of-from front) ∙ over.from ∙ sym over'.from ∙ end_of-from front') in
+    let same = head_is first first' (rest ++ back) (rest' ++ back') behind.1 in
+    omega (arith, over.alike 0 first (omega arith), over'.alike 0 first' (omega arith), ap (λ (e : Entry). e.level) same)
+
+pub one_run : OneRun
+one_run entries are lo hi level other has has' = by_runs has.0 has.1 has.2 has.3 has.4 has'.0 has'.1 has'.2 has'.3 has'.4
+  where
+    by_runs : (front run back : List Entry) → entries ≡ front ++ run ++ back → IsRunOver front run back level lo hi
+        → (front' run' back' : List Entry) → entries ≡ front' ++ run' ++ back' → IsRunOver front' run' back' other lo hi → level ≡ other
+    by_runs front [] back parts over front' run' back' parts' over' = absurd (over.some refl)
+    by_runs front (first ∷ rest) back parts over front' [] back' parts' over' = absurd (over'.some refl)
+    by_runs front (first ∷ rest) back parts over front' (first' ∷ rest') back' parts' over' =
+        one_level entries front first rest back front' first' rest' back' lo hi level other are parts over parts' over'
 
 becomes_one : (entries : List Entry) (entry : Entry) (next other : List Entry) → AreEntries entries → Becomes entries entry next → Becomes entries entry other → next ≡ other
 becomes_one entries entry next other are (follows place is) (follows place' is') = is ∙ sym is'
@@ -89,7 +111,7 @@ same_entry x y lo hi id size tmin tmax level = λ i. record {
 }
 
 -- a body is the record of one entry
-same_body : (body : List ℕ) (x y : Entry) → IsBodyOf body x → IsBodyOf body y → x ≡ y
+pub same_body : (body : List ℕ) (x y : Entry) → IsBodyOf body x → IsBodyOf body y → x ≡ y
 same_body body x y is other =
     let same : body_of x ≡ body_of y = sym is.same ∙ other.same in
     same_entry x y

@@ -2,7 +2,7 @@
 use Rattle.std.specs.Prelude.{◌≡◌, ℕ, ◌^◌, ◌<◌, ◌≤◌, leb, ltb, ◌&&◌, List, [], ◌∷◌, ◌++◌, length}
 use Rattle.std.specs.List.{All, AllPairs, Contains, filter}
 use Rattle.metastore_index.specs.declared.entry.Entry.{Entry}
-use Rattle.metastore_index.specs.Entries.{AreEntries, Becomes, Covers, IndexView, IsTaken, end_of}
+use Rattle.metastore_index.specs.Entries.{AreEntries, Becomes, Covers, HasRun, IndexView, IsTaken, end_of}
 use Rattle.metastore_index.specs.Taken.{BodiesComeTo, ComesTo, IsBodyOf, Takes}
 
 -- no record comes to nothing
@@ -40,6 +40,21 @@ abbrev pub EndMoves : Type 0
 EndMoves =
     (entries : List Entry) (entry : Entry) (next : List Entry) → Becomes entries entry next
     → (entry.level ≡ 0 → (entry.lo ≡ end_of entries) × (end_of next ≡ entry.hi)) × (1 ≤ entry.level → end_of next ≡ end_of entries)
+
+-- the entry begins where one of these does
+abbrev pub BeginsAmong : List Entry → Entry → Type 0
+BeginsAmong entries entry = (older : Entry) × Contains entries older × (older.lo ≡ entry.lo)
+
+-- a record that stands in for a run begins no live entry where none began before
+abbrev pub BoundariesStay : Type 0
+BoundariesStay =
+    (entries : List Entry) (entry : Entry) (next : List Entry) → AreEntries entries → Becomes entries entry next → 1 ≤ entry.level
+    → All (BeginsAmong entries) next
+
+-- the runs over just these pushes have one level
+abbrev pub OneRun : Type 0
+OneRun =
+    (entries : List Entry) → AreEntries entries → (lo hi level other : ℕ) → HasRun entries level lo hi → HasRun entries other lo hi → level ≡ other
 
 -- the entry's pushes have this one among them
 abbrev pub Holds : Entry → ℕ → Type 0
@@ -108,3 +123,19 @@ abbrev pub NextIsTaken : Type 0
 NextIsTaken =
     (bodies : List (List ℕ)) (body : List ℕ) (more : List (List ℕ)) (index last : IndexView) (entry : Entry)
     → BodiesComeTo (bodies ++ body ∷ more) last → BodiesComeTo bodies index → IsBodyOf body entry → IsTaken index entry
+
+-- a body is the record of one entry
+abbrev pub OneReading : Type 0
+OneReading = (body : List ℕ) (entry other : Entry) → IsBodyOf body entry → IsBodyOf body other → entry ≡ other
+
+-- the body is the record of some entry
+abbrev pub Reads : List ℕ → Type 0
+Reads body = (entry : Entry) × IsBodyOf body entry
+
+-- each body of an index file can be read
+abbrev pub EachBodyReads : Type 0
+EachBodyReads = (bodies : List (List ℕ)) (index : IndexView) → BodiesComeTo bodies index → All Reads bodies
+
+-- where all bodies come to an index, so do the first of them, however many
+abbrev pub FrontComes : Type 0
+FrontComes = (bodies more : List (List ℕ)) (last : IndexView) → BodiesComeTo (bodies ++ more) last → (index : IndexView) × BodiesComeTo bodies index

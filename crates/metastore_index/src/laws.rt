@@ -1,5 +1,5 @@
 //! What holds of all records of an index.
-ghost use Rattle.metastore_index.specs.Laws.{NoneComeToNothing, OneMoreComes, OneMoreBodyComes, LiveOnesDivide, LiveOnesWereTaken, IdsRise, EndMoves, EachIsHeldOnce, OthersStay, LiveOnesCover, LaterIsHigher, LiveOneIsHighest, AtMostFourHold, OneIndex, OneIndexOfBodies, NextIsTaken};
+ghost use Rattle.metastore_index.specs.Laws.{NoneComeToNothing, OneMoreComes, OneMoreBodyComes, LiveOnesDivide, LiveOnesWereTaken, IdsRise, EndMoves, EachIsHeldOnce, OthersStay, LiveOnesCover, LaterIsHigher, LiveOneIsHighest, AtMostFourHold, OneIndex, OneIndexOfBodies, NextIsTaken, BoundariesStay, OneRun, OneReading, EachBodyReads, FrontComes};
 
 /// What records come to, each taken in turn. It does nothing: its clauses are the laws.
 pub fn records_taken_in_turn()
@@ -10,6 +10,7 @@ pub fn records_taken_in_turn()
     ensures taken { LiveOnesWereTaken }
     ensures ids { IdsRise }
     ensures end { EndMoves }
+    ensures boundaries { BoundariesStay }
 {}
 
 /// Which entries hold a push, before a record and after it, and over all records. It does nothing: its clauses are the
@@ -23,9 +24,14 @@ pub fn holders_of_a_push()
     ensures four { AtMostFourHold }
 {}
 
-/// Records come to one index, whoever reads them. It does nothing: its clauses are the laws.
+/// Records come to one index, whoever reads them, and runs of live entries over the same pushes have one level. It does
+/// nothing: its clauses are the laws.
 pub fn one_index()
     ensures one { OneIndex }
     ensures bodies { OneIndexOfBodies }
     ensures next { NextIsTaken }
+    ensures reading { OneReading }
+    ensures each { EachBodyReads }
+    ensures front { FrontComes }
+    ensures run { OneRun }
 {}

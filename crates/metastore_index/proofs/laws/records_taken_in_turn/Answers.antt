@@ -1,3 +1,4 @@
+use Rattle.metastore_index.proofs.BoundaryLemmas.{boundaries_stay}
 use Rattle.metastore_index.proofs.EndLemmas.{end_moves}
 use Rattle.metastore_index.proofs.TakenLemmas.{none_come_to_nothing, one_more_comes, one_more_body_comes, live_ones_divide, live_ones_were_taken, ids_rise}
 use Rattle.metastore_index.proofs.laws.records_taken_in_turn.Goals as goal
@@ -22,3 +23,6 @@ returns-clause-ids c = ids_rise
 
 pub returns-clause-end : goal.returns-clause-end
 returns-clause-end c = end_moves
+
+pub returns-clause-boundaries : goal.returns-clause-boundaries
+returns-clause-boundaries c = boundaries_stay

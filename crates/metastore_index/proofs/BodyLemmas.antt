@@ -1,5 +1,5 @@
 -- The parts of a record.
-use Rattle.std.proofs.Common.{◌≡◌, ℕ, ◌+◌, ◌<◌, ◌^◌, Bool, true, false, not, List, [], ◌∷◌, ◌++◌, length, get_or, take, drop, replicate, refl, sym, true≢false, ap, ◌∙◌, w64, arith}
+use Rattle.std.proofs.Common.{◌≡◌, ℕ, ◌+◌, ◌<◌, ◌^◌, Bool, true, false, List, [], ◌∷◌, ◌++◌, length, get_or, take, drop, replicate, sym, true≢false, ap, ◌∙◌, w64, arith}
 use Rattle.std.specs.Int.{bytes_high_first, from_be_bytes}
 use Rattle.std.specs.List.{flat_map}
 use Rattle.std.proofs.lemmas.List.{take-append-drop, take_all, length-drop, drop-drop, drop_more}
@@ -35,19 +35,15 @@ same_number m n low within same =
 last_part : (body : List ℕ) → length body ≡ 63 → take 14 (drop 49 body) ≡ drop 49 body
 last_part body long = take_all 14 (drop 49 body) (omega (arith, length-drop 49 body, long))
 
-not_false : (b : Bool) → not b ≡ false → b ≡ true
-not_false true is = refl
-not_false false is = absurd (true≢false is)
-
 -- what the test of the last bytes says
-pub ends_zero : (body : List ℕ) (differ : Bool) → length body ≡ 63 → differ ≡ not (bytes_eq (take 14 (drop 49 body)) (replicate 14 0)) → differ ≡ false → drop 49 body ≡ replicate 14 0
-ends_zero body differ long is same =
-    sym (last_part body long) ∙ (bytes_eq-Decides (take 14 (drop 49 body)) (replicate 14 0)).0 (not_false (bytes_eq (take 14 (drop 49 body)) (replicate 14 0)) (sym is ∙ same))
+pub ends_zero : (body : List ℕ) (same : Bool) → length body ≡ 63 → same ≡ bytes_eq (take 14 (drop 49 body)) (replicate 14 0) → same ≡ true → drop 49 body ≡ replicate 14 0
+ends_zero body same long is holds =
+    sym (last_part body long) ∙ (bytes_eq-Decides (take 14 (drop 49 body)) (replicate 14 0)).0 (sym is ∙ holds)
 
-pub ends_otherwise : (body : List ℕ) (differ : Bool) → length body ≡ 63 → differ ≡ not (bytes_eq (take 14 (drop 49 body)) (replicate 14 0)) → differ ≡ true → drop 49 body ≡ replicate 14 0 → ⊥
-ends_otherwise body differ long is other zeros =
-    let same = (bytes_eq-Decides (take 14 (drop 49 body)) (replicate 14 0)).1 (last_part body long ∙ zeros) in
-    true≢false (sym other ∙ is ∙ ap not same)
+pub ends_otherwise : (body : List ℕ) (same : Bool) → length body ≡ 63 → same ≡ bytes_eq (take 14 (drop 49 body)) (replicate 14 0) → same ≡ false → drop 49 body ≡ replicate 14 0 → ⊥
+ends_otherwise body same long is other zeros =
+    let equal = (bytes_eq-Decides (take 14 (drop 49 body)) (replicate 14 0)).1 (last_part body long ∙ zeros) in
+    true≢false (sym equal ∙ sym is ∙ other)
 
 -- what stands in an entry's record
 pub record IsRecordOf (body : List ℕ) (entry : Entry) (lo hi : ℕ) : Type 0 where

@@ -1,5 +1,5 @@
 // A run of pushes and the object that holds them.
-ghost use Rattle.std.specs.Prelude.{◌<◌, ◌≤◌};
+ghost use Rattle.std.specs.Prelude.{◌≡◌, ◌≢◌, ◌<◌, ◌≤◌, IsTrue, IsFalse, drop, replicate};
 
 use crate::number::number_at;
 
@@ -21,6 +21,14 @@ pub struct Entry {
     pub level: u8,
     ghost some: { lo < hi },
     ghost known: { level ≤ 3 },
+}
+
+// Whether the bytes behind the level are all 0.
+fn ends_in_zeros(body: &[u8; 63]) -> bool
+    ensures zeros { IsTrue result → drop 49 body.now ≡ replicate 14 0 }
+    ensures others { IsFalse result → drop 49 body.now ≢ replicate 14 0 }
+{
+    body[49..] == [0; 14]
 }
 
 impl Entry {
@@ -51,7 +59,7 @@ impl Entry {
         let lo = number_at(body, 0);
         let hi = number_at(body, 8);
         let level = body[48];
-        if lo >= hi || level > MAX_LEVEL || body[49..] != [0; 14] {
+        if lo >= hi || level > MAX_LEVEL || !ends_in_zeros(body) {
             return None;
         }
         Some(Entry {

@@ -81,14 +81,15 @@ All-becomes P entries entry next all here (stands front run back parts high over
     last_part : (front run back : List Entry) → All P (front ++ run ++ back) → All P back
     last_part front run back whole = subst (All P) (drop_at (front ++ run) back (length (front ++ run)) refl) (All-drop P (length (front ++ run)) (front ++ run ++ back) whole)
 
-pub stands_made : (entries : List Entry) (entry : Entry) (start end : ℕ) (next : List Entry) → 1 ≤ entry.level → start < end → end ≤ length entries
-    → IsRunOver (take start entries) (take (end - start) (drop start entries)) (drop end entries) (entry.level - 1) entry.lo entry.hi
+pub stands_made : (entries : List Entry) (entry : Entry) (level start end : ℕ) (next : List Entry) → 1 ≤ entry.level → start < end → end ≤ length entries
+    → IsRunOver (take start entries) (take (end - start) (drop start entries)) (drop end entries) level entry.lo entry.hi → level ≡ entry.level - 1
     → next ≡ remove_range (set entries start entry) (start + 1) end
     → HasRun entries (entry.level - 1) entry.lo entry.hi × Becomes entries entry next
-stands_made entries entry start end next high some within run is =
+stands_made entries entry level start end next high some within found below is =
     let front = take start entries in
     let back = drop end entries in
     let over = take (end - start) (drop start entries) in
+    let run : IsRunOver front over back (entry.level - 1) entry.lo entry.hi = subst (λ n. IsRunOver front over back n entry.lo entry.hi) below found in
     let parts = three_parts entries start end (omega (arith, some)) in
     let made : next ≡ front ++ entry ∷ back = is
     ∙ ap (λ (l : List Entry). l ++ drop end (set entries start entry)) (take_more_set entries start entry (omega arith))

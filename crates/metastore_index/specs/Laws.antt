@@ -124,7 +124,7 @@ NextIsTaken =
     (bodies : List (List ℕ)) (body : List ℕ) (more : List (List ℕ)) (index last : IndexView) (entry : Entry)
     → BodiesComeTo (bodies ++ body ∷ more) last → BodiesComeTo bodies index → IsBodyOf body entry → IsTaken index entry
 
--- a body is the record of one entry
+-- a body is the record of one entry at most
 abbrev pub OneReading : Type 0
 OneReading = (body : List ℕ) (entry other : Entry) → IsBodyOf body entry → IsBodyOf body other → entry ≡ other
 

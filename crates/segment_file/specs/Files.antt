@@ -1,0 +1,101 @@
+-- What the file of an object says, and its fields, in order. Each rule stands at the field where it can be judged: a
+-- rule on several fields at the last of them.
+use Rattle.std.specs.Prelude.{◌≡◌, ◌&&◌, ℕ, ◌+◌, ◌-◌, ◌^◌, Bool, true, not, List, [], ◌∷◌, ◌++◌, length, codes, nat_lt, nat_le, nat_eq, None}
+use Rattle.std.specs.List.{list_all}
+use Rattle.std.specs.Map.{keys_of}
+use Rattle.std.specs.Option.{is_none}
+use Rattle.std.specs.Ordering.{is_lt}
+use Rattle.std.specs.Cmp.Lexicographic.{pointwise}
+use Rattle.profile_model.specs.TenantPlaces.{wrong_place}
+use Rattle.profile_model.specs.Kinds.{is_colon}
+use Rattle.profile_model.specs.LabelSets.{Label, is_label_name}
+use Rattle.profile_model.specs.Stacks.{name_cmp, stack_cmp}
+use Rattle.profile_model.specs.Sums.{Sample, total_of}
+use Rattle.segment_file.specs.declared.fault.ObjectRule.TheVariants.{Content, Form}
+use Rattle.segment_file.specs.Fields.{Field, Fit, each_of, listed, number, text_of, unless}
+
+-- a profile's labels, the five parts of its type, its time and its values, whatever rules they break
+pub record FileProfile : Type 0 where
+  pub labels : List Label
+  pub name : List ℕ
+  pub sample_type : List ℕ
+  pub sample_unit : List ℕ
+  pub period_type : List ℕ
+  pub period_unit : List ℕ
+  pub time_ms : ℕ
+  pub values : List Sample
+
+-- a push's tenant and profiles
+pub record FilePush : Type 0 where
+  pub tenant : List ℕ
+  pub profiles : List FileProfile
+
+-- a file's first four bytes, the numbers of its first push and of the one behind its last, and its pushes
+pub record File : Type 0 where
+  pub mark : List ℕ
+  pub lo : ℕ
+  pub hi : ℕ
+  pub pushes : List FilePush
+
+-- ---- the fields of each
+
+-- a name above all before it, and a value
+abbrev pub label_fields : List Label → Label → List Field
+label_fields before label =
+    text_of label.0 (is_label_name label.0 && list_all (λ other. is_lt (name_cmp other.0 label.0)) before)
+    ∷ text_of label.1 (nat_lt 0 (length label.1) && nat_le (length label.1) 2048)
+    ∷ []
+
+-- a part of a type
+abbrev pub part_field : List ℕ → Field
+part_field part = text_of part (list_all (λ b. not (is_colon b)) part)
+
+abbrev pub is_frame : List ℕ → Bool
+is_frame frame = nat_lt 0 (length frame) && nat_le (length frame) 65535
+
+-- the frames of a stack, the last of which shows whether the stack is in its order
+abbrev pub frame_fields : Bool → List (List ℕ) → List Field
+frame_fields ordered [] = []
+frame_fields ordered (frame ∷ []) = text_of frame (is_frame frame && ordered) ∷ []
+frame_fields ordered (frame ∷ next ∷ deeper) = text_of frame (is_frame frame) ∷ frame_fields ordered (next ∷ deeper)
+
+-- a stack above all before it, and a value of at least 1, all values so far below 2^63
+abbrev pub sample_fields : List Sample → Sample → List Field
+sample_fields before sample =
+    number 4 (length sample.0) (unless (nat_lt 0 (length sample.0) && nat_le (length sample.0) 1024) Content)
+    ∷ frame_fields (list_all (λ other. is_lt (stack_cmp other.0 sample.0)) before) sample.0
+    ++ number 8 sample.1 (unless (nat_lt 0 sample.1 && nat_lt (total_of before + sample.1) (2 ^ 63)) Content)
+    ∷ []
+
+abbrev pub profile_fields : FileProfile → List Field
+profile_fields profile =
+    listed (nat_le (length profile.labels) 31) label_fields profile.labels
+    ++ part_field profile.name ∷ part_field profile.sample_type ∷ part_field profile.sample_unit
+    ∷ part_field profile.period_type ∷ part_field profile.period_unit
+    ∷ number 8 profile.time_ms None
+    ∷ listed true sample_fields profile.values
+
+abbrev pub push_fields : FilePush → List Field
+push_fields push =
+    text_of push.tenant (is_none (wrong_place push.tenant))
+    ∷ listed (nat_le (length push.profiles) 4096) (λ before profile. profile_fields profile) push.profiles
+
+abbrev pub mark_of_objects : List ℕ
+mark_of_objects = codes "PYO0"
+
+-- four bytes that say what the file is
+abbrev pub mark_field : List ℕ → Field
+mark_field mark = record { bytes = mark; fits = nat_eq (length mark) 4; breaks = unless (pointwise nat_eq mark mark_of_objects) Form }
+
+abbrev pub file_fields : File → List Field
+file_fields file =
+    mark_field file.mark
+    ∷ number 8 file.lo None
+    ∷ number 8 file.hi (unless (nat_lt file.lo file.hi) Form)
+    ∷ each_of (λ before push. push_fields push) [] file.pushes
+
+-- Its numbers and lengths have room in their bytes, and it has as many pushes as its two numbers say: so its bytes can
+-- be told apart by their counts and lengths alone, whatever rules they break.
+pub record IsFile (file : File) : Type 0 where
+  pub count : length file.pushes ≡ file.hi - file.lo
+  pub fit : Fit (file_fields file)

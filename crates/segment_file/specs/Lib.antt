@@ -1,0 +1,6 @@
+pub mod Fields
+pub mod Files
+pub mod Objects
+pub mod Decoded
+pub mod Parts
+pub mod Laws

@@ -1,0 +1,48 @@
+-- A tenant's profiles in a stretch of pushes.
+use Rattle.std.specs.Prelude.{◌&&◌, ℕ, Bool, List, map, filter, nat_eq, nat_le, nat_lt}
+use Rattle.std.specs.List.{enumerate_from, flat_map}
+use Rattle.std.specs.Cmp.Lexicographic.{pointwise}
+use Rattle.profile_model.specs.declared.profile.Profile.{Profile}
+use Rattle.profile_model.specs.declared.push.Push.{Push}
+
+-- whose profiles are asked for, and of which times, both included
+pub record PartAsk : Type 0 where
+  pub tenant : List ℕ
+  pub from_ms : ℕ
+  pub until_ms : ℕ
+
+-- a profile, the number of its push and its place there
+pub record Row : Type 0 where
+  pub push : ℕ
+  pub place : ℕ
+  pub profile : Profile
+
+-- what was found in pushes number `from` to `until` - 1
+pub record Part : Type 0 where
+  pub from : ℕ
+  pub until : ℕ
+  pub rows : List Row
+
+-- the profiles of a push that has this number, in order
+abbrev pub rows_of_push : ℕ × Push → List Row
+rows_of_push numbered =
+    map (λ placed. record { push = numbered.0; place = placed.0; profile = placed.1 }) (enumerate_from 0 numbered.1.profiles)
+
+-- the pushes from `from` to below `until`, each with its number, of pushes that are numbered from lo on
+abbrev pub pushes_between : ℕ → List Push → ℕ → ℕ → List (ℕ × Push)
+pushes_between lo pushes from until = filter (λ numbered. nat_le from numbered.0 && nat_lt numbered.0 until) (enumerate_from lo pushes)
+
+abbrev pub is_of : List ℕ → ℕ × Push → Bool
+is_of tenant numbered = pointwise nat_eq numbered.1.tenant tenant
+
+-- the time is in the ask's window
+abbrev pub is_within : PartAsk → Row → Bool
+is_within ask row = nat_le ask.from_ms row.profile.time_ms && nat_le row.profile.time_ms ask.until_ms
+
+-- what the ask finds in pushes number `from` to `until` - 1 of an object's
+abbrev pub part_of : ℕ → List Push → ℕ → ℕ → PartAsk → Part
+part_of lo pushes from until ask = record {
+  from = from;
+  until = until;
+  rows = filter (is_within ask) (flat_map rows_of_push (filter (is_of ask.tenant) (pushes_between lo pushes from until)));
+}

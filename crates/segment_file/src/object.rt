@@ -1,0 +1,56 @@
+// Consecutive pushes of a history.
+ghost use Rattle.std.specs.Prelude.{◌≡◌, ◌≢◌, ℕ, ◌+◌, ◌^◌, ◌<◌, [], length};
+
+use profile_model::Push;
+use std::marker::Model;
+
+/// Pushes number `lo` to `hi` - 1 of a history, at least one.
+#[derive(Debug, Drop)]
+pub struct Object {
+    lo: u64,
+    pushes: Vec<Push>,
+}
+
+impl Model for Object {
+    ghost use Rattle.std.specs.Prelude.{◌≢◌, ◌+◌, ◌^◌, ◌<◌, [], length};
+    ghost use Rattle.segment_file.specs.Objects.{ObjectView};
+
+    ghost Value = { ObjectView };
+
+    ghost view = { λ o. record { lo = o.lo; pushes = o.pushes.items } };
+
+    ghost invariant = { λ o. (o.pushes.items ≢ []) × (o.lo + length o.pushes.items < 2 ^ 64) };
+}
+
+impl Object {
+    /// These pushes, the first of them number `lo`. It takes no memory.
+    pub fn from_pushes(lo: u64, pushes: Vec<Push>) -> Object
+        requires some { pushes.items ≢ [] }
+        requires within { lo + length pushes.items < 2 ^ 64 }
+        ensures lo { result.lo ≡ lo }
+        ensures pushes { result.pushes ≡ pushes.items }
+    {
+        Object { lo, pushes }
+    }
+
+    /// The number of its first push.
+    pub fn lo(&self) -> u64
+        ensures { result ≡ self.now.lo }
+    {
+        self.lo
+    }
+
+    /// The number behind that of its last push.
+    pub fn hi(&self) -> u64
+        ensures hi { result ≡ self.now.lo + length self.now.pushes }
+        ensures some { self.now.lo < result }
+    {
+        self.lo + self.pushes.len() as u64
+    }
+
+    pub fn pushes(&self) -> &[Push]
+        ensures { result.now ≡ self.now.pushes }
+    {
+        &self.pushes
+    }
+}

@@ -1,7 +1,7 @@
 -- Numbers, texts and lists, as a file of them has them one after another.
 use Rattle.std.specs.Prelude.{◌&&◌, ℕ, ◌^◌, Bool, List, [], ◌∷◌, ◌++◌, length, nat_lt, Option, Some, None, IsTrue, if◌then◌else◌}
 use Rattle.std.specs.Int.{bytes_high_first}
-use Rattle.std.specs.List.{All, flat_map}
+use Rattle.std.specs.List.{flat_map, list_all}
 use Rattle.std.specs.Str.{is_utf8}
 use Rattle.std.specs.Option.{is_none}
 use Rattle.segment_file.specs.declared.fault.ObjectRule.{ObjectRule}
@@ -45,8 +45,8 @@ spelled fields = flat_map (λ field. field.bytes) fields
 
 -- each number and each length has room in its bytes
 abbrev pub Fit : List Field → Type 0
-Fit fields = All (λ field. IsTrue field.fits) fields
+Fit fields = IsTrue (list_all (λ field. field.fits) fields)
 
 -- none breaks a rule
 abbrev pub AreSound : List Field → Type 0
-AreSound fields = All (λ field. IsTrue (is_none field.breaks)) fields
+AreSound fields = IsTrue (list_all (λ field. is_none field.breaks) fields)

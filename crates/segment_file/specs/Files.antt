@@ -59,17 +59,26 @@ frame_fields ordered [] = []
 frame_fields ordered (frame ∷ []) = text_of frame (is_frame frame && ordered) ∷ []
 frame_fields ordered (frame ∷ next ∷ deeper) = text_of frame (is_frame frame) ∷ frame_fields ordered (next ∷ deeper)
 
--- a stack above all before it, and a value of at least 1, all values so far below 2^63
+-- 1 to 1,024 frames, in all a stack above those before it
+abbrev pub stack_fields : List Sample → List (List ℕ) → List Field
+stack_fields before stack =
+    number 4 (length stack) (unless (nat_lt 0 (length stack) && nat_le (length stack) 1024) Content)
+    ∷ frame_fields (list_all (λ other. is_lt (stack_cmp other.0 stack)) before) stack
+
+-- at least 1, and below 2^63 with all values before it
+abbrev pub value_field : List Sample → ℕ → Field
+value_field before value = number 8 value (unless (nat_lt 0 value && nat_lt (total_of before + value) (2 ^ 63)) Content)
+
 abbrev pub sample_fields : List Sample → Sample → List Field
-sample_fields before sample =
-    number 4 (length sample.0) (unless (nat_lt 0 (length sample.0) && nat_le (length sample.0) 1024) Content)
-    ∷ frame_fields (list_all (λ other. is_lt (stack_cmp other.0 sample.0)) before) sample.0
-    ++ number 8 sample.1 (unless (nat_lt 0 sample.1 && nat_lt (total_of before + sample.1) (2 ^ 63)) Content)
-    ∷ []
+sample_fields before sample = stack_fields before sample.0 ++ value_field before sample.1 ∷ []
+
+-- at most 31 labels
+abbrev pub labels_fields : List Label → List Field
+labels_fields labels = listed (nat_le (length labels) 31) label_fields labels
 
 abbrev pub profile_fields : FileProfile → List Field
 profile_fields profile =
-    listed (nat_le (length profile.labels) 31) label_fields profile.labels
+    labels_fields profile.labels
     ++ part_field profile.name ∷ part_field profile.sample_type ∷ part_field profile.sample_unit
     ∷ part_field profile.period_type ∷ part_field profile.period_unit
     ∷ number 8 profile.time_ms None

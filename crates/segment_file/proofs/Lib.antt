@@ -1,3 +1,4 @@
 pub mod SpellingLemmas
 pub mod FileLemmas
+pub mod ObjectLemmas
 pub mod WorkedRows

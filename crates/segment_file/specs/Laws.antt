@@ -1,24 +1,19 @@
 -- What holds of all objects and their files.
-use Rattle.std.specs.Prelude.{◌≡◌, ℕ, List, map}
+use Rattle.std.specs.Prelude.{◌≡◌, ℕ, List}
 use Rattle.profile_model.specs.declared.push.Push.{Push}
 use Rattle.segment_file.specs.declared.fault.ObjectRule.{ObjectRule}
 use Rattle.segment_file.specs.Decoded.{IsBroken, Spells}
 use Rattle.segment_file.specs.Files.{File, IsFile, file_fields}
 use Rattle.segment_file.specs.Fields.{AreSound, spelled}
-use Rattle.segment_file.specs.Objects.{IsObject, ObjectView, file_of, push_said, spelling_of}
+use Rattle.segment_file.specs.Objects.{IsObject, ObjectView, file_of}
 
 -- two files with the same bytes say the same, whatever rules they break
 abbrev pub OneFile : Type 0
 OneFile = (file other : File) → IsFile file → IsFile other → spelled (file_fields file) ≡ spelled (file_fields other) → file ≡ other
 
--- two objects say the same
-pub record IsSameObject (object other : ObjectView) : Type 0 where
-  pub lo : object.lo ≡ other.lo
-  pub pushes : map push_said object.pushes ≡ map push_said other.pushes
-
 -- two objects with the same bytes are the same
 abbrev pub OneObject : Type 0
-OneObject = (bytes : List ℕ) (object other : ObjectView) → Spells bytes object → Spells bytes other → IsSameObject object other
+OneObject = (bytes : List ℕ) (object other : ObjectView) → Spells bytes object → Spells bytes other → object ≡ other
 
 -- no field of an object's file breaks a rule
 abbrev pub ObjectsAreSound : Type 0

@@ -11,21 +11,21 @@ use Rattle.segment_file.specs.Files.{File, FilePush, FileProfile, IsFile, file_f
 use Rattle.segment_file.proofs.SpellingLemmas.{IsOnce, Fit-append, each_once, eight_once, followed, followed-append, four_once, front_once, listed_once, spelled-followed, text_once}
 
 -- the first field fits
-abbrev FirstFits : List Field → Type 0
+abbrev pub FirstFits : List Field → Type 0
 FirstFits [] = Unit {0}
 FirstFits (field ∷ fields) = field.fits ≡ true
 
-first_fits : (fields : List Field) → Fit fields → FirstFits fields
+pub first_fits : (fields : List Field) → Fit fields → FirstFits fields
 first_fits [] fit = tt
 first_fits (field ∷ fields) fit = (and_parts field.fits (list_all (λ (f : Field). f.fits) fields) fit).0
 
 -- and so do those behind the first ones
-others_fit : (n : ℕ) (fields : List Field) → Fit fields → Fit (drop n fields)
+pub others_fit : (n : ℕ) (fields : List Field) → Fit fields → Fit (drop n fields)
 others_fit zero fields fit = fit
 others_fit (suc n) [] fit = fit
 others_fit (suc n) (field ∷ fields) fit = others_fit n fields (and_parts field.fits (list_all (λ (f : Field). f.fits) fields) fit).1
 
-nth_fits : (n : ℕ) (fields : List Field) → Fit fields → FirstFits (drop n fields)
+pub nth_fits : (n : ℕ) (fields : List Field) → Fit fields → FirstFits (drop n fields)
 nth_fits n fields fit = first_fits (drop n fields) (others_fit n fields fit)
 
 label_once : (before : List Label) → IsOnce (label_fields before)
@@ -69,7 +69,7 @@ sample_once before sample other rest more fit fits same =
     (λ i. (stack.0 i, counted.0 i), counted.1)
 
 -- what stands behind the labels
-abbrev behind_labels : FileProfile → List Field
+abbrev pub behind_labels : FileProfile → List Field
 behind_labels profile =
     part_field profile.name ∷ part_field profile.sample_type ∷ part_field profile.sample_unit
     ∷ part_field profile.period_type ∷ part_field profile.period_unit

@@ -1,4 +1,5 @@
 pub mod SpellingLemmas
 pub mod FileLemmas
 pub mod ObjectLemmas
+pub mod TwinLemmas
 pub mod WorkedRows

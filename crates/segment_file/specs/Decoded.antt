@@ -56,8 +56,8 @@ pub record Spells (bytes : List ℕ) (object : ObjectView) : Type 0 where
   pub whole : IsObject object.lo object.pushes
   pub spelled : bytes ≡ spelling_of object.lo object.pushes
 
--- the object that the bytes spell, else the first rule that they break, and its place
+-- the object that the bytes spell, else the first rule that they break, and its place; memory may run out at any time
 abbrev pub IsDecoded : List ℕ → Result ObjectView ObjectFault → Type 0
 IsDecoded bytes (Ok object) = Spells bytes object
 IsDecoded bytes (Err (Broken rule at)) = IsBroken bytes rule at
-IsDecoded bytes (Err Memory) = (rule : ObjectRule) (at : ℕ) → ¬ (IsBroken bytes rule at)
+IsDecoded bytes (Err Memory) = Unit {0}

@@ -1,11 +1,13 @@
 //! An object: consecutive pushes of a history, and the file that keeps them.
 //!
 //! A file is a list of fields: numbers, the highest byte first, and texts with their length before them. Each list has
-//! its count before it. `docs/FORMATS.md` draws it.
+//! its count before it.
 #![tactic(auto)]
 
 mod fault;
+mod laws;
 mod object;
 
 pub use fault::{ObjectFault, ObjectRule};
+pub use laws::objects_have_one_spelling;
 pub use object::Object;

@@ -1,13 +1,12 @@
 -- Files with the same bytes say the same.
-use Rattle.std.proofs.Common.{◌≡◌, ◌&&◌, ℕ, suc, ◌+◌, ◌-◌, ◌<◌, ◌^◌, Bool, true, false, zero, List, [], ◌∷◌, ◌++◌, length, drop, None, refl, subst, sym, ap, ◌∙◌, arith}
+use Rattle.std.proofs.Common.{◌≡◌, ℕ, suc, ◌-◌, Bool, true, zero, List, [], ◌∷◌, ◌++◌, length, drop, None, refl, sym, ap, ◌∙◌, arith}
 use Rattle.std.specs.Prelude.{nat_le}
 use Rattle.std.specs.List.{list_all}
 use Rattle.std.proofs.lemmas.Bool.{and_parts, eqb-true, ltb-true}
-use Rattle.std.proofs.lemmas.List.{append-nil}
 use Rattle.profile_model.specs.LabelSets.{Label}
 use Rattle.profile_model.specs.Sums.{Sample}
-use Rattle.segment_file.specs.Fields.{Field, Fit, each_of, listed, number, spelled, text_of}
-use Rattle.segment_file.specs.Files.{File, FilePush, FileProfile, IsFile, file_fields, frame_fields, label_fields, labels_fields, part_field, profile_fields, push_fields, sample_fields, stack_fields, value_field}
+use Rattle.segment_file.specs.Fields.{Field, Fit, listed, number, spelled}
+use Rattle.segment_file.specs.Files.{File, FileProfile, IsFile, file_fields, frame_fields, label_fields, labels_fields, part_field, profile_fields, push_fields, sample_fields, stack_fields, value_field}
 use Rattle.segment_file.proofs.SpellingLemmas.{IsOnce, Fit-append, each_once, eight_once, followed, followed-append, four_once, front_once, listed_once, spelled-followed, text_once}
 
 -- the first field fits
@@ -90,17 +89,19 @@ profile_once profile other rest more fit fits same =
     let period_type = text_once profile.period_type other.period_type _ _ (ltb-true _ _ (nth_fits 3 a mine.1)) (ltb-true _ _ (nth_fits 3 b theirs.1)) sample_unit.1 in
     let period_unit = text_once profile.period_unit other.period_unit _ _ (ltb-true _ _ (nth_fits 4 a mine.1)) (ltb-true _ _ (nth_fits 4 b theirs.1)) period_type.1 in
     let time = eight_once profile.time_ms other.time_ms _ _ (ltb-true _ _ (nth_fits 5 a mine.1)) (ltb-true _ _ (nth_fits 5 b theirs.1)) period_unit.1 in
-    let values = listed_once sample_fields true true sample_once profile.values other.values rest more (others_fit 6 a mine.1) (others_fit 6 b theirs.1) time.1 in
-    (λ i. record {
-      labels = labels.0 i;
-      name = name.0 i;
-      sample_type = sample_type.0 i;
-      sample_unit = sample_unit.0 i;
-      period_type = period_type.0 i;
-      period_unit = period_unit.0 i;
-      time_ms = time.0 i;
-      values = values.0 i;
-    }, values.1)
+    let values = listed_once sample_fields true true sample_once profile.values other.values rest more (others_fit 6 a mine.1) (others_fit 6 b theirs.1) time.1 in (
+      λ i. record {
+        labels = labels.0 i;
+        name = name.0 i;
+        sample_type = sample_type.0 i;
+        sample_unit = sample_unit.0 i;
+        period_type = period_type.0 i;
+        period_unit = period_unit.0 i;
+        time_ms = time.0 i;
+        values = values.0 i;
+      },
+      values.1,
+    )
 
 pub push_once : IsOnce push_fields
 push_once push other rest more fit fits same =

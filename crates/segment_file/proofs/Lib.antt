@@ -2,4 +2,5 @@ pub mod SpellingLemmas
 pub mod FileLemmas
 pub mod ObjectLemmas
 pub mod TwinLemmas
+pub mod FaultLemmas
 pub mod WorkedRows

@@ -1,20 +1,20 @@
 -- Two files are told apart by their bytes at the first field in which they differ.
-use Rattle.std.proofs.Common.{◌≡◌, ◌&&◌, ℕ, zero, suc, ◌+◌, ◌-◌, ◌<◌, ◌^◌, Bool, true, false, List, [], ◌∷◌, ◌++◌, length, drop, Option, None, refl, subst, sym, ap, ◌∙◌, arith}
+use Rattle.std.proofs.Common.{◌≡◌, ◌&&◌, ℕ, ◌+◌, ◌-◌, ◌<◌, ◌^◌, Bool, true, List, [], ◌∷◌, ◌++◌, length, drop, Option, None, refl, subst, sym, ap, ◌∙◌, arith}
 use Rattle.std.specs.Prelude.{nat_le, nat_lt, not}
 use Rattle.std.specs.List.{list_all}
 use Rattle.std.specs.Option.{is_none}
 use Rattle.std.specs.Ordering.{is_lt}
 use Rattle.profile_model.specs.Kinds.{is_colon}
 use Rattle.profile_model.specs.TenantPlaces.{wrong_place}
-use Rattle.std.proofs.lemmas.Bool.{and_parts, eqb-true, ltb-true}
+use Rattle.std.proofs.lemmas.Bool.{eqb-true, ltb-true}
 use Rattle.std.proofs.lemmas.List.{append_assoc, append-nil}
 use Rattle.profile_model.specs.LabelSets.{Label, is_label_name}
 use Rattle.profile_model.specs.Stacks.{name_cmp, stack_cmp}
 use Rattle.profile_model.specs.Sums.{Sample, total_of}
 use Rattle.segment_file.specs.declared.fault.ObjectRule.{ObjectRule}
 use Rattle.segment_file.specs.declared.fault.ObjectRule.TheVariants as objects
-use Rattle.segment_file.specs.Fields.{Field, Fit, each_of, listed, number, spelled, text_of, unless}
-use Rattle.segment_file.specs.Files.{File, FilePush, FileProfile, IsFile, file_fields, frame_fields, is_frame, label_fields, labels_fields, mark_field, part_field, profile_fields, push_fields, sample_fields, stack_fields, value_field}
+use Rattle.segment_file.specs.Fields.{Field, Fit, each_of, listed, number, text_of, unless}
+use Rattle.segment_file.specs.Files.{File, IsFile, file_fields, frame_fields, is_frame, label_fields, labels_fields, mark_field, profile_fields, push_fields, sample_fields, stack_fields, value_field}
 use Rattle.segment_file.proofs.SpellingLemmas.{Fit-append, eight_once, four_once, front_once, text_once}
 use Rattle.segment_file.proofs.FileLemmas.{behind_labels, first_fits, nth_fits, others_fit}
 
@@ -31,21 +31,24 @@ AreTwins (field ∷ fields) (other ∷ others) = AreOne field other × (field �
 
 twins-text : (judge : List ℕ → Bool) (text other : List ℕ) (fields others : List Field) → length text < 256 ^ 4 → length other < 256 ^ 4
     → (text ≡ other → AreTwins fields others) → AreTwins (text_of text (judge text) ∷ fields) (text_of other (judge other) ∷ others)
-twins-text judge text other fields others low within later =
-    (λ rest more same. ap (λ (t : List ℕ). text_of t (judge t)) (text_once text other rest more low within same).0,
-    λ is. later (text_once text other [] [] low within (ap (λ (field : Field). field.bytes ++ []) is)).0)
+twins-text judge text other fields others low within later = (
+  λ rest more same. ap (λ (t : List ℕ). text_of t (judge t)) (text_once text other rest more low within same).0,
+  λ is. later (text_once text other [] [] low within (ap (λ (field : Field). field.bytes ++ []) is)).0,
+)
 
 twins-four : (judge : ℕ → Option ObjectRule) (m n : ℕ) (fields others : List Field) → m < 256 ^ 4 → n < 256 ^ 4
     → (m ≡ n → AreTwins fields others) → AreTwins (number 4 m (judge m) ∷ fields) (number 4 n (judge n) ∷ others)
-twins-four judge m n fields others low within later =
-    (λ rest more same. ap (λ (k : ℕ). number 4 k (judge k)) (four_once m n rest more low within same).0,
-    λ is. later (four_once m n [] [] low within (ap (λ (field : Field). field.bytes ++ []) is)).0)
+twins-four judge m n fields others low within later = (
+  λ rest more same. ap (λ (k : ℕ). number 4 k (judge k)) (four_once m n rest more low within same).0,
+  λ is. later (four_once m n [] [] low within (ap (λ (field : Field). field.bytes ++ []) is)).0,
+)
 
 twins-eight : (judge : ℕ → Option ObjectRule) (m n : ℕ) (fields others : List Field) → m < 256 ^ 8 → n < 256 ^ 8
     → (m ≡ n → AreTwins fields others) → AreTwins (number 8 m (judge m) ∷ fields) (number 8 n (judge n) ∷ others)
-twins-eight judge m n fields others low within later =
-    (λ rest more same. ap (λ (k : ℕ). number 8 k (judge k)) (eight_once m n rest more low within same).0,
-    λ is. later (eight_once m n [] [] low within (ap (λ (field : Field). field.bytes ++ []) is)).0)
+twins-eight judge m n fields others low within later = (
+  λ rest more same. ap (λ (k : ℕ). number 8 k (judge k)) (eight_once m n rest more low within same).0,
+  λ is. later (eight_once m n [] [] low within (ap (λ (field : Field). field.bytes ++ []) is)).0,
+)
 
 -- the fields of two values, whatever follows
 abbrev pub TellApart : {A : Type 0} → (A → List Field) → Type 0
@@ -171,13 +174,14 @@ pub file_twins : (file other : File) → IsFile file → IsFile other → AreTwi
 file_twins file other is also =
     let a = file_fields file in
     let b = file_fields other in
-    let long = eqb-true (length file.mark) 4 (nth_fits 0 a is.fit) ∙ sym (eqb-true (length other.mark) 4 (nth_fits 0 b also.fit)) in
-    (λ rest more same. ap mark_field (front_once file.mark other.mark rest more long same).0,
-    λ mark. twins-eight (λ n. None) file.lo other.lo (drop 2 a) (drop 2 b) (ltb-true _ _ (nth_fits 1 a is.fit)) (ltb-true _ _ (nth_fits 1 b also.fit))
-    (λ lo. subst (λ (n : ℕ). AreTwins (drop 2 a) (number 8 other.hi (unless (nat_lt n other.hi) objects.Form) ∷ drop 3 b)) lo
-    (twins-eight (λ n. unless (nat_lt file.lo n) objects.Form) file.hi other.hi (drop 3 a) (drop 3 b) (ltb-true _ _ (nth_fits 2 a is.fit)) (ltb-true _ _ (nth_fits 2 b also.fit))
-    (λ hi. let count : length file.pushes ≡ length other.pushes = is.count ∙ ap (λ (n : ℕ). n - file.lo) hi ∙ ap (λ (n : ℕ). other.hi - n) lo ∙ sym also.count in
-    subst (λ (l : List Field). AreTwins l (drop 3 b)) (append-nil (drop 3 a))
-    (subst (λ (l : List Field). AreTwins (drop 3 a ++ []) l) (append-nil (drop 3 b))
-    (each_twins (λ before push. push_fields push) (λ before. push_twins) [] file.pushes other.pushes [] [] count (others_fit 3 a is.fit) (others_fit 3 b also.fit)
-    (λ pushes. tt)))))))
+    let long = eqb-true (length file.mark) 4 (nth_fits 0 a is.fit) ∙ sym (eqb-true (length other.mark) 4 (nth_fits 0 b also.fit)) in (
+      λ rest more same. ap mark_field (front_once file.mark other.mark rest more long same).0,
+      λ mark. twins-eight (λ n. None) file.lo other.lo (drop 2 a) (drop 2 b) (ltb-true _ _ (nth_fits 1 a is.fit)) (ltb-true _ _ (nth_fits 1 b also.fit))
+          (λ lo. subst (λ (n : ℕ). AreTwins (drop 2 a) (number 8 other.hi (unless (nat_lt n other.hi) objects.Form) ∷ drop 3 b)) lo
+          (twins-eight (λ n. unless (nat_lt file.lo n) objects.Form) file.hi other.hi (drop 3 a) (drop 3 b) (ltb-true _ _ (nth_fits 2 a is.fit)) (ltb-true _ _ (nth_fits 2 b also.fit))
+          (λ hi. let count : length file.pushes ≡ length other.pushes = is.count ∙ ap (λ (n : ℕ). n - file.lo) hi ∙ ap (λ (n : ℕ). other.hi - n) lo ∙ sym also.count in
+          subst (λ (l : List Field). AreTwins l (drop 3 b)) (append-nil (drop 3 a))
+          (subst (λ (l : List Field). AreTwins (drop 3 a ++ []) l) (append-nil (drop 3 b))
+          (each_twins (λ before push. push_fields push) (λ before. push_twins) [] file.pushes other.pushes [] [] count (others_fit 3 a is.fit) (others_fit 3 b also.fit)
+          (λ pushes. tt)))))),
+    )

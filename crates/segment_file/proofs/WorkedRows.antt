@@ -33,7 +33,11 @@ length-an_empty_push = refl
 
 abbrev pub cpu : ProfileType
 cpu = record {
-  name = codes "cpu"; sample_type = codes "samples"; sample_unit = codes "count"; period_type = []; period_unit = [];
+  name = codes "cpu";
+  sample_type = codes "samples";
+  sample_unit = codes "count";
+  period_type = [];
+  period_unit = [];
   parts = (refl, refl, refl, refl, refl);
 }
 
@@ -109,37 +113,46 @@ another_mark = inl (record {
 -- the last byte is missing
 pub a_byte_is_missing : IsBroken (take 29 (spelling_of 0 (empty_push (codes "t1") ∷ []))) Form 29
 unfolding is_utf8 chars encode
-a_byte_is_missing = inr (refl, inl (record {
-  field = number 4 0 None;
-  begun = 0 ∷ 0 ∷ 0 ∷ [];
-  missing = 0 ∷ [];
-  from = 26;
-  reaches = record {
-    file = file_by mark_of_objects 0 1 (no_profiles (codes "t1"));
-    shape = record { count = refl; fit = refl };
-    before = take 4 (file_fields (file_by mark_of_objects 0 1 (no_profiles (codes "t1"))));
-    behind = [];
-    fields = refl;
-    sound = refl;
-    bytes_are = refl;
-    place = refl;
-  };
-  part = refl;
-  some = λ is. absurd cc;
-}, refl))
+a_byte_is_missing = inr (
+  refl,
+  inl (
+    record {
+      field = number 4 0 None;
+      begun = 0 ∷ 0 ∷ 0 ∷ [];
+      missing = 0 ∷ [];
+      from = 26;
+      reaches = record {
+        file = file_by mark_of_objects 0 1 (no_profiles (codes "t1"));
+        shape = record { count = refl; fit = refl };
+        before = take 4 (file_fields (file_by mark_of_objects 0 1 (no_profiles (codes "t1"))));
+        behind = [];
+        fields = refl;
+        sound = refl;
+        bytes_are = refl;
+        place = refl;
+      };
+      part = refl;
+      some = λ is. absurd cc;
+    },
+    refl,
+  ),
+)
 
 -- a byte is left over
 pub a_byte_is_left : IsBroken (spelling_of 0 (empty_push (codes "t1") ∷ []) ++ 7 ∷ []) Form 30
 unfolding is_utf8 chars encode
-a_byte_is_left = inr (refl, inr (record {
-  file = file_by mark_of_objects 0 1 (no_profiles (codes "t1"));
-  shape = record { count = refl; fit = refl };
-  sound = refl;
-  more = 7 ∷ [];
-  bytes_are = refl;
-  some = λ is. absurd cc;
-  place = refl;
-}))
+a_byte_is_left = inr (
+  refl,
+  inr (record {
+    file = file_by mark_of_objects 0 1 (no_profiles (codes "t1"));
+    shape = record { count = refl; fit = refl };
+    sound = refl;
+    more = 7 ∷ [];
+    bytes_are = refl;
+    some = λ is. absurd cc;
+    place = refl;
+  }),
+)
 
 -- no tenant is called `..`
 pub a_wrong_tenant : IsBroken (bytes_by mark_of_objects 0 1 (no_profiles (codes ".."))) Content 20
@@ -165,7 +178,13 @@ abbrev two_stacks : FilePush
 two_stacks = record {
   tenant = codes "t1";
   profiles = record {
-    labels = []; name = []; sample_type = []; sample_unit = []; period_type = []; period_unit = []; time_ms = 0;
+    labels = [];
+    name = [];
+    sample_type = [];
+    sample_unit = [];
+    period_type = [];
+    period_unit = [];
+    time_ms = 0;
     values = (codes "main" ∷ [], 1) ∷ (codes "a" ∷ codes "b" ∷ [], 1) ∷ [];
   } ∷ [];
 }

@@ -19,7 +19,12 @@ OneObject = (bytes : List ℕ) (object other : ObjectView) → Spells bytes obje
 abbrev pub ObjectsAreSound : Type 0
 ObjectsAreSound = (lo : ℕ) (pushes : List Push) → IsObject lo pushes → AreSound (file_fields (file_of lo pushes))
 
--- what spells an object isn't broken, so an object is refused for want of memory alone
+-- bytes of a file that breaks no rule have no fault
+abbrev pub NoSoundFileIsBroken : Type 0
+NoSoundFileIsBroken =
+    (bytes : List ℕ) (file : File) (rule : ObjectRule) (at : ℕ) → IsFile file → AreSound (file_fields file) → bytes ≡ spelled (file_fields file) → ¬ (IsBroken bytes rule at)
+
+-- what spells an object has no fault
 abbrev pub NoObjectIsBroken : Type 0
 NoObjectIsBroken = (bytes : List ℕ) (object : ObjectView) (rule : ObjectRule) (at : ℕ) → Spells bytes object → ¬ (IsBroken bytes rule at)
 

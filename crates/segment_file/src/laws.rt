@@ -1,8 +1,15 @@
 //! What holds of the bytes of all objects.
-ghost use Rattle.segment_file.specs.Laws.{OneFile, OneObject};
+ghost use Rattle.segment_file.specs.Laws.{NoSoundFileIsBroken, OneFault, OneFile, OneObject};
 
 /// Bytes spell one object. It does nothing: its clauses are the law.
 pub fn objects_have_one_spelling()
     ensures file { OneFile }
     ensures object { OneObject }
+{}
+
+/// Bytes have one first fault, or none where they are a whole file that breaks no rule. It does nothing: its clauses
+/// are the law.
+pub fn bytes_have_one_fault()
+    ensures one { OneFault }
+    ensures none { NoSoundFileIsBroken }
 {}

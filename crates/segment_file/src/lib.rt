@@ -9,5 +9,5 @@ mod laws;
 mod object;
 
 pub use fault::{ObjectFault, ObjectRule};
-pub use laws::objects_have_one_spelling;
+pub use laws::{bytes_have_one_fault, objects_have_one_spelling};
 pub use object::Object;

@@ -3,4 +3,5 @@ pub mod FileLemmas
 pub mod ObjectLemmas
 pub mod TwinLemmas
 pub mod FaultLemmas
+pub mod SoundLemmas
 pub mod WorkedRows

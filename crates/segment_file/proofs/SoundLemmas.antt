@@ -1,5 +1,5 @@
 -- No field of an object's file breaks a rule.
-use Rattle.std.proofs.Common.{◌≡◌, ◌&&◌, ℕ, ◌+◌, ◌<◌, ◌≤◌, ◌^◌, Bool, true, false, List, [], ◌∷◌, ◌++◌, length, map, None, ◌≢◌, refl, subst, sym, ap, ◌∙◌, arith}
+use Rattle.std.proofs.Common.{◌≡◌, ◌&&◌, ℕ, ◌+◌, ◌<◌, ◌≤◌, ◌^◌, Bool, true, List, [], ◌∷◌, ◌++◌, length, map, None, ◌≢◌, refl, ap, ◌∙◌, arith}
 use Rattle.std.specs.Prelude.{nat_le, nat_lt, not, sum_by}
 use Rattle.std.specs.List.{All, AllByRecursion, list_all}
 use Rattle.std.specs.List.Sorted.{IsStrictlySortedBy}
@@ -9,7 +9,7 @@ use Rattle.std.specs.Ordering.{is_lt}
 use Rattle.std.specs.declared.cmp.Ordering.{Ordering}
 use Rattle.std.specs.declared.cmp.Ordering.TheVariants.{Less}
 use Rattle.std.specs.Str.{IsUtf8, is_utf8}
-use Rattle.std.proofs.lemmas.Bool.{and_from, and_parts, le-leb, lt-ltb, ltb-true}
+use Rattle.std.proofs.lemmas.Bool.{and_from, le-leb, lt-ltb}
 use Rattle.std.proofs.lemmas.List.Elements.{recursion_from_All}
 use Rattle.std.proofs.lemmas.List.Folds.{list_all-append}
 use Rattle.std.proofs.lemmas.List.Sums.{sum_by-append}
@@ -27,8 +27,12 @@ use Rattle.profile_model.specs.declared.push.Push.{Push}
 use Rattle.segment_file.specs.declared.fault.ObjectRule.{ObjectRule}
 use Rattle.segment_file.specs.declared.fault.ObjectRule.TheVariants.{Content, Form}
 use Rattle.segment_file.specs.Fields.{AreSound, Field, each_of, listed, number, text_of, unless}
-use Rattle.segment_file.specs.Files.{File, FileProfile, FilePush, file_fields, frame_fields, is_frame, label_fields, labels_fields, part_field, profile_fields, push_fields, sample_fields, stack_fields, value_field}
-use Rattle.segment_file.specs.Objects.{IsObject, IsProfile, IsPush, file_of, profile_said, push_said}
+use Rattle.segment_file.specs.Files.{FileProfile, FilePush, file_fields, frame_fields, is_frame, label_fields, labels_fields, part_field, profile_fields, push_fields, sample_fields, stack_fields, value_field}
+use Rattle.segment_file.specs.Decoded.{IsBroken, Spells}
+use Rattle.segment_file.proofs.FaultLemmas.{whole_unbroken}
+use Rattle.segment_file.proofs.ObjectLemmas.{file_is}
+use Rattle.segment_file.proofs.TenantLemmas.{tenant_utf8}
+use Rattle.segment_file.specs.Objects.{IsObject, ObjectView, IsProfile, IsPush, file_of, profile_said, push_said}
 
 -- ---- one field
 
@@ -59,10 +63,11 @@ above_next : {K V : Type 0} (cmp : K → K → Ordering) (before : List (K × V)
     → AllByRecursion (λ item. is_above cmp before item.0 ≡ true) items → AllByRecursion (λ key. cmp first.0 key ≡ Less) (keys_of items)
     → AllByRecursion (λ item. is_above cmp (before ++ first ∷ []) item.0 ≡ true) items
 above_next cmp before first [] above low = tt
-above_next {K} {V} cmp before first (item ∷ items) above low =
-    (list_all-append (λ (other : K × V). is_lt (cmp other.0 item.0)) before (first ∷ [])
-    ∙ and_from (is_above cmp before item.0) (is_lt (cmp first.0 item.0) && true) above.0 (and_from (is_lt (cmp first.0 item.0)) true (ap is_lt low.0) refl),
-    above_next cmp before first items above.1 low.1)
+above_next {K} {V} cmp before first (item ∷ items) above low = (
+  list_all-append (λ (other : K × V). is_lt (cmp other.0 item.0)) before (first ∷ [])
+      ∙ and_from (is_above cmp before item.0) (is_lt (cmp first.0 item.0) && true) above.0 (and_from (is_lt (cmp first.0 item.0)) true (ap is_lt low.0) refl),
+  above_next cmp before first items above.1 low.1,
+)
 
 -- ---- labels
 
@@ -160,7 +165,7 @@ push_sound push is =
     let few = nat_le (length profiles) 4096 in
     let count : length profiles ≤ 4096 = omega (arith, is.few, length-map push.profiles profile_said) in
     sound_cons (text_of push.tenant (is_none (wrong_place push.tenant))) (listed few (λ before profile. profile_fields profile) profiles)
-    (text_kept push.tenant (is_none (wrong_place push.tenant)) (ap is_none is.tenant) is.utf8)
+    (text_kept push.tenant (is_none (wrong_place push.tenant)) (ap is_none is.tenant) (tenant_utf8 push.tenant is.tenant))
     (sound_cons (number 4 (length profiles) (unless few Content)) (each_of (λ before profile. profile_fields profile) [] profiles)
     (kept few Content (le-leb (length profiles) 4096 count)) (profiles_sound [] push.profiles (recursion_from_All IsProfile push.profiles is.each)))
 
@@ -181,3 +186,7 @@ objects_are_sound lo pushes is =
     let ordered = nat_lt lo hi in
     sound_cons (number 8 hi (unless ordered Form)) (each_of (λ before push. push_fields push) [] (map push_said pushes))
     (kept ordered Form (lt-ltb lo hi (rises lo pushes is.some))) (pushes_sound [] pushes (recursion_from_All IsPush pushes is.each))
+
+pub object_unbroken : (bytes : List ℕ) (object : ObjectView) (rule : ObjectRule) (at : ℕ) → Spells bytes object → IsBroken bytes rule at → ⊥
+object_unbroken bytes object rule at spells broken =
+    whole_unbroken bytes (file_of object.lo object.pushes) rule at (file_is object.lo object.pushes spells.whole) (objects_are_sound object.lo object.pushes spells.whole) spells.spelled broken

@@ -1,5 +1,5 @@
 -- The definitions, worked out on small objects.
-use Rattle.std.proofs.Common.{◌≡◌, ℕ, false, inl, inr, None, List, [], ◌∷◌, ◌++◌, length, take, drop, refl, arith}
+use Rattle.std.proofs.Common.{◌≡◌, ℕ, false, inl, inr, None, Some, List, [], ◌∷◌, ◌++◌, length, take, drop, refl, arith}
 use Rattle.std.proofs.lemmas.List.Elements.{All-cons, All-nil}
 use Rattle.std.specs.Prelude.{codes}
 use Rattle.std.specs.Str.{is_utf8, chars}
@@ -200,6 +200,27 @@ a_lower_stack = inl (record {
     shape = record { count = refl; fit = refl };
     before = take 18 (file_fields (file_by mark_of_objects 0 1 two_stacks));
     behind = drop 19 (file_fields (file_by mark_of_objects 0 1 two_stacks));
+    fields = refl;
+    sound = refl;
+    bytes_are = refl;
+    place = refl;
+  };
+  wrong = refl;
+})
+
+-- no push: the second number isn't above the first
+abbrev no_pushes : File
+no_pushes = record { mark = mark_of_objects; lo = 1; hi = 1; pushes = [] }
+
+pub no_push_at_all : IsBroken (spelled (file_fields no_pushes)) Form 12
+no_push_at_all = inl (record {
+  field = number 8 1 (Some Form);
+  more = [];
+  reaches = record {
+    file = no_pushes;
+    shape = record { count = refl; fit = refl };
+    before = take 2 (file_fields no_pushes);
+    behind = [];
     fields = refl;
     sound = refl;
     bytes_are = refl;

@@ -65,7 +65,6 @@ pub record IsProfile (profile : Profile) : Type 0 where
 
 pub record IsPush (push : Push) : Type 0 where
   pub tenant : wrong_place push.tenant ≡ None
-  pub utf8 : IsUtf8 push.tenant
   pub few : length push.profiles ≤ 4096
   pub each : All IsProfile push.profiles
 

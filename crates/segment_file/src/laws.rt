@@ -1,10 +1,12 @@
 //! What holds of the bytes of all objects.
-ghost use Rattle.segment_file.specs.Laws.{NoSoundFileIsBroken, OneFault, OneFile, OneObject};
+ghost use Rattle.segment_file.specs.Laws.{NoObjectIsBroken, NoSoundFileIsBroken, ObjectsAreSound, OneFault, OneFile, OneObject};
 
-/// Bytes spell one object. It does nothing: its clauses are the law.
+/// Bytes spell one object, and what spells an object has no fault. It does nothing: its clauses are the law.
 pub fn objects_have_one_spelling()
     ensures file { OneFile }
     ensures object { OneObject }
+    ensures sound { ObjectsAreSound }
+    ensures unbroken { NoObjectIsBroken }
 {}
 
 /// Bytes have one first fault, or none where they are a whole file that breaks no rule. It does nothing: its clauses

@@ -7,6 +7,8 @@
 mod fault;
 mod laws;
 mod object;
+#[cfg(test)]
+mod tests;
 
 pub use fault::{ObjectFault, ObjectRule};
 pub use laws::{bytes_have_one_fault, objects_have_one_spelling};

@@ -1,0 +1,4 @@
+mod WorkedRows
+pub mod PrefixLemmas
+pub mod FirstLemmas
+pub mod WalkLemmas

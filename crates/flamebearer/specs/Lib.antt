@@ -1,0 +1,3 @@
+pub mod Trees
+pub mod Flames
+pub mod Pushes

@@ -1,0 +1,6 @@
+//! Flame graphs of stacks and their values.
+#![tactic(auto)]
+
+mod tree;
+
+pub use tree::Tree;

@@ -1,7 +1,7 @@
 -- The first places of what a stack begins with, after those of lower stacks.
-use Rattle.std.proofs.Common.{◌≡◌, ℕ, zero, suc, ◌+◌, ◌-◌, ◌<◌, ◌≤◌, ◌==◌, ◌||◌, List, [], ◌∷◌, ◌++◌, length, map, take, drop, get_or, Bool, true, false, cond, arith, refl, sym, ap, ◌∙◌, append_assoc, append-nil}
-use Rattle.std.specs.Prelude.{◌≢◌, fold, if◌then◌else◌}
-use Rattle.std.specs.List.{AllByRecursion, list_any, range_with_len, flat_map}
+use Rattle.std.proofs.Common.{◌≡◌, ℕ, zero, suc, ◌+◌, ◌-◌, ◌<◌, ◌≤◌, ◌||◌, List, [], ◌∷◌, ◌++◌, length, map, take, true, false, cond, arith, refl, sym, ap, ◌∙◌, append_assoc, append-nil}
+use Rattle.std.specs.Prelude.{fold, if◌then◌else◌}
+use Rattle.std.specs.List.{list_any, range_with_len, flat_map}
 use Rattle.std.specs.Map.{keys_of}
 use Rattle.std.proofs.lemmas.List.{map-append, length-take-le}
 use Rattle.std.proofs.lemmas.List.Sums.{fold-append}
@@ -41,11 +41,11 @@ none_met stack from (suc count) found within new =
     let x = take (from + 1) stack in
     ap (λ b. fold add (cond b found (found ++ x ∷ [])) (fronts stack (from + 1) count)) (new from (omega arith) (omega arith))
     ∙ none_met stack (from + 1) count (found ++ x ∷ []) (omega arith) (λ n far near.
-      let longer = length-take-le (n + 1) stack (omega arith) in
-      let shorter = length-take-le (from + 1) stack (omega arith) in
-      let other : stack_eq (take (n + 1) stack) x ≡ false = other_length (take (n + 1) stack) x (λ same. absurd (omega arith)) in
-      list_any-append (stack_eq (take (n + 1) stack)) found (x ∷ [])
-      ∙ (λ i. new n (omega arith) (omega arith) i || (other i || false)))
+    let longer = length-take-le (n + 1) stack (omega arith) in
+    let shorter = length-take-le (from + 1) stack (omega arith) in
+    let other : stack_eq (take (n + 1) stack) x ≡ false = other_length (take (n + 1) stack) x (λ same. absurd (omega arith)) in
+    list_any-append (stack_eq (take (n + 1) stack)) found (x ∷ [])
+    ∙ (λ i. new n (omega arith) (omega arith) i || (other i || false)))
     ∙ append_assoc found (x ∷ []) (fronts stack (from + 1) count)
 
 range-split : (from count more : ℕ) → range_with_len from (count + more) ≡ range_with_len from count ++ range_with_len (from + count) more

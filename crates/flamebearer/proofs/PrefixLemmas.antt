@@ -1,6 +1,6 @@
 -- What stacks begin with, and how that stands in their order.
-use Rattle.std.proofs.Common.{◌≡◌, ℕ, zero, suc, ◌+◌, ◌-◌, ◌<◌, ◌≤◌, ◌==◌, ◌||◌, List, [], ◌∷◌, ◌++◌, length, map, take, drop, get_or, Bool, true, false, cond, arith, refl, sym, ap, ◌∙◌}
-use Rattle.std.specs.Prelude.{◌≢◌, nat_eq}
+use Rattle.std.proofs.Common.{◌≡◌, ℕ, zero, suc, ◌+◌, ◌<◌, ◌≤◌, ◌||◌, List, [], ◌∷◌, length, take, drop, get_or, Bool, true, false, arith, refl, sym, ap, ◌∙◌}
+use Rattle.std.specs.Prelude.{◌≢◌}
 use Rattle.std.specs.List.{AllByRecursion, list_any}
 use Rattle.std.specs.Cmp.{tied_itself}
 use Rattle.std.specs.Ordering.{is_eq, ordering_then, match_ordering}
@@ -10,8 +10,9 @@ use Rattle.std.specs.Cmp.Lexicographic.{pointwise_decides, bytes_decides, texts_
 use Rattle.std.proofs.lemmas.Bool.{true≢false, false_from_ne_true}
 use Rattle.std.proofs.lemmas.List.{length-take-le}
 use Rattle.profile_model.specs.Stacks.{name_cmp, stack_cmp}
-use Rattle.profile_model.specs.StackOrder.{stack_eq, stacks_equiv, stacks_ties, stacks_total}
+use Rattle.profile_model.specs.StackOrder.{stack_eq, stacks_equiv, stacks_ties}
 use Rattle.flamebearer.specs.Trees.{begins_with}
+use Rattle.flamebearer.specs.Parts.{PartAt}
 
 abbrev is_less : Ordering → Bool
 is_less o = match_ordering o true false false
@@ -28,13 +29,6 @@ same_stack xs ys same = (pointwise_decides bytes_decides xs ys).1 same
 -- stacks of other lengths are others
 pub other_length : (xs ys : List (List ℕ)) → length xs ≢ length ys → stack_eq xs ys ≡ false
 other_length xs ys other = false_from_ne_true (stack_eq xs ys) (λ same. other (ap length (stack_same xs ys same)))
-
--- two stacks part at c: so many frames they share, and no more
-pub record PartAt (xs ys : List (List ℕ)) (c : ℕ) : Type 0 where
-  pub in_first : c ≤ length xs
-  pub in_second : c ≤ length ys
-  pub shared : take c xs ≡ take c ys
-  pub apart : c < length xs → c < length ys → get_or xs c [] ≢ get_or ys c []
 
 part_next : (x y : List ℕ) (xs ys : List (List ℕ)) (c : ℕ) → PartAt (x ∷ xs) (y ∷ ys) (suc c) → PartAt xs ys c
 part_next x y xs ys c part = record {

@@ -1,13 +1,12 @@
 -- A tree, and what one stack more makes of it.
-use Rattle.std.proofs.Common.{◌≡◌, ℕ, zero, suc, ◌+◌, ◌-◌, ◌<◌, ◌≤◌, ◌==◌, ◌||◌, List, [], ◌∷◌, ◌++◌, length, map, take, drop, get_or, Bool, true, false, cond, arith, refl, sym, ap, ◌∙◌, append_assoc, append-nil, Some, None, Option, subst, ⊎_elim}
-use Rattle.std.specs.Prelude.{◌≢◌, ◌&&◌, not, nat_lt, fold, filter, unwrap_or, sum_by, if◌then◌else◌}
-use Rattle.std.specs.List.{AllByRecursion, IsDistinct, list_any, range_with_len, flat_map}
+use Rattle.std.proofs.Common.{◌≡◌, ℕ, zero, suc, ◌+◌, ◌-◌, ◌<◌, ◌≤◌, ◌||◌, List, [], ◌∷◌, ◌++◌, length, map, take, Bool, true, false, cond, arith, refl, sym, ap, ◌∙◌, Some, None, subst, ⊎_elim}
+use Rattle.std.specs.Prelude.{◌&&◌, not, nat_lt, unwrap_or, sum_by, if◌then◌else◌}
+use Rattle.std.specs.List.{AllByRecursion, IsDistinct, list_any}
 use Rattle.std.specs.Map.{keys_of, values_of, lookup}
 use Rattle.std.specs.BTreeMap.{is_at}
 use Rattle.std.specs.Cmp.{tied_itself}
-use Rattle.std.specs.Ordering.{is_eq, match_ordering}
-use Rattle.std.specs.declared.cmp.Ordering.{Ordering}
-use Rattle.std.specs.declared.cmp.Ordering.TheVariants.{Less, Equal, Greater}
+use Rattle.std.specs.Ordering.{is_eq}
+use Rattle.std.specs.declared.cmp.Ordering.TheVariants.{Less}
 use Rattle.std.proofs.lemmas.Bool.{true≢false, cases_lt, false_from_ne_true, or_parts}
 use Rattle.std.proofs.lemmas.Bool.Decides.{Decides-ltb}
 use Rattle.std.proofs.lemmas.List.{map-append, length-take-le}
@@ -19,9 +18,10 @@ use Rattle.profile_model.proofs.EntryLemmas.{all_map}
 use Rattle.profile_model.specs.Sums.{Sample, value_of, total_of}
 use Rattle.profile_model.specs.Stacks.{stack_cmp}
 use Rattle.profile_model.specs.StackOrder.{stack_eq, stacks_ties, stacks_total}
-use Rattle.flamebearer.specs.Trees.{Node, begins_with, beginning_with, firsts, node_of, prefixes, tree_of}
+use Rattle.flamebearer.specs.Trees.{begins_with, beginning_with, firsts, node_of, tree_of}
+use Rattle.flamebearer.specs.Parts.{PartAt}
 use Rattle.flamebearer.specs.Pushes.{fresh, fronts, grown}
-use Rattle.flamebearer.proofs.PrefixLemmas.{PartAt, AreBelow, above_is_new, begins_with_take, begun, cut, cut_short, length_begun, other_length, same_stack, stack_same, take_below}
+use Rattle.flamebearer.proofs.PrefixLemmas.{AreBelow, above_is_new, begins_with_take, begun, cut, length_begun, other_length, same_stack, stack_same, take_below}
 use Rattle.flamebearer.proofs.FirstLemmas.{found_of, found_of-push}
 
 abbrev Stack : Type 0
@@ -47,12 +47,13 @@ distinct-append (x ∷ xs) ys a b apart = (all-append (λ y. stack_eq x y ≡ fa
 distinct-fronts : (stack : Stack) (from count : ℕ) → from + count ≤ length stack → IsDistinct stack_eq (fronts stack from count)
 unfolding IsDistinct
 distinct-fronts stack from zero within = tt
-distinct-fronts stack from (suc count) within =
-    (all-fronts (λ y. stack_eq (take (from + 1) stack) y ≡ false) stack (from + 1) count (λ n far near.
+distinct-fronts stack from (suc count) within = (
+  all-fronts (λ y. stack_eq (take (from + 1) stack) y ≡ false) stack (from + 1) count (λ n far near.
       let longer = length-take-le (n + 1) stack (omega arith) in
       let shorter = length-take-le (from + 1) stack (omega arith) in
       other_length (take (from + 1) stack) (take (n + 1) stack) (λ same. absurd (omega arith))),
-    distinct-fronts stack (from + 1) count (omega arith))
+  distinct-fronts stack (from + 1) count (omega arith),
+)
 
 map-all : {X Y Z : Type 0} (f : X → Z) (g : Y → Z) (h : X → Y) (xs : List X) → AllByRecursion (λ x. f x ≡ g (h x)) xs → map f xs ≡ map g (map h xs)
 map-all f g h [] all = refl
@@ -94,8 +95,8 @@ not_itself p (k ∷ keys) none = by (begins_with p k) refl none (not_itself p ke
     by true is none later = absurd (true≢false none)
     by false is none later =
         let other : is_eq (stack_cmp p k) ≡ false = false_from_ne_true _ (λ same.
-          let equal = stack_same p k (stacks_ties p k ∙ same) in
-          true≢false (sym (same_stack (take (length p) k) p (ap (take (length p)) (sym equal) ∙ whole p)) ∙ is)) in
+        let equal = stack_same p k (stacks_ties p k ∙ same) in
+        true≢false (sym (same_stack (take (length p) k) p (ap (take (length p)) (sym equal) ∙ whole p)) ∙ is)) in
         ap (λ b. b || list_any (is_at (stack_cmp p)) keys) other ∙ later none
       where
         whole : (xs : Stack) → take (length xs) xs ≡ xs
@@ -191,9 +192,9 @@ new_node : (samples : List Sample) (stack : Stack) (value : ℕ) (p : Stack) →
 unfolding node_of fresh
 new_node samples stack value p none begins =
     let own : value_of (samples ++ (stack, value) ∷ []) p ≡ cond (stack_eq p stack) value 0 =
-        lookup-last (is_at (stack_cmp p)) samples stack value (not_itself p (keys_of samples) none) ∙ ap (λ b. cond b value 0) (sym (stacks_ties p stack)) in
+    lookup-last (is_at (stack_cmp p)) samples stack value (not_itself p (keys_of samples) none) ∙ ap (λ b. cond b value 0) (sym (stacks_ties p stack)) in
     let total : total_of (beginning_with p (samples ++ (stack, value) ∷ [])) ≡ value =
-        total-push p samples stack value ∙ (λ i. total-none p samples none i + cond (begins i) value 0) ∙ zero_more value in
+    total-push p samples stack value ∙ (λ i. total-none p samples none i + cond (begins i) value 0) ∙ zero_more value in
     λ i. record { stack = p; own = own i; total = total i }
   where
     zero_more : (n : ℕ) → 0 + n ≡ n
@@ -207,14 +208,14 @@ tree-push samples path stack value c walked next =
     let found = found_of samples in
     let new = fronts stack c (length stack - c) in
     let olds = map-all (node_of after) (grown c stack value) (node_of samples) found
-        (all_map (λ p below. old_node samples path stack value c next.part next.greater p below) found walked.below) in
+    (all_map (λ p below. old_node samples path stack value c next.part next.greater p below) found walked.below) in
     let inner = next.part.in_second in
     let news = map-all-one (node_of after) (fresh stack value) new
-        (all-fronts (λ p. node_of after p ≡ fresh stack value p) stack c (length stack - c) (λ n far near.
-          let long = length-take-le (n + 1) stack (omega arith) in
-          new_node samples stack value (take (n + 1) stack)
-          (walked.met (take (n + 1) stack) (omega arith) (is_new samples path stack c walked next n far (omega arith)))
-          (begins_with_take (n + 1) stack (omega arith)))) in
+    (all-fronts (λ p. node_of after p ≡ fresh stack value p) stack c (length stack - c) (λ n far near.
+    let long = length-take-le (n + 1) stack (omega arith) in
+    new_node samples stack value (take (n + 1) stack)
+    (walked.met (take (n + 1) stack) (omega arith) (is_new samples path stack c walked next n far (omega arith)))
+    (begins_with_take (n + 1) stack (omega arith)))) in
     ap (map (node_of after)) (found-next samples path stack value c walked next)
     ∙ map-append (node_of after) found new
     ∙ (λ i. olds i ++ news i)
@@ -228,18 +229,18 @@ walked-push samples path stack value c walked next =
     let is = found-next samples path stack value c walked next in
     let inner = next.part.in_second in
     let above : (q : Stack) → ((m : Stack) → stack_cmp path m ≡ Less → stack_cmp q m ≡ Less) → AllByRecursion (λ y. stack_eq q y ≡ false) new =
-        λ q below. all-fronts (λ y. stack_eq q y ≡ false) stack c rest (λ n far near.
-          stacks_ties q (take (n + 1) stack) ∙ ap is_eq (below (take (n + 1) stack) (cut c n path stack next.part next.greater far (omega arith)))) in
+    λ q below. all-fronts (λ y. stack_eq q y ≡ false) stack c rest (λ n far near.
+    stacks_ties q (take (n + 1) stack) ∙ ap is_eq (below (take (n + 1) stack) (cut c n path stack next.part next.greater far (omega arith)))) in
     record {
       distinct = subst (IsDistinct stack_eq) (sym is)
           (distinct-append found new walked.distinct (distinct-fronts stack c rest (omega arith)) (all_map above found walked.below));
       below = subst (AreBelow stack) (sym is)
           (all-append (λ q. (m : Stack) → stack_cmp stack m ≡ Less → stack_cmp q m ≡ Less) found new
-            (all_map (λ q below m more. below m (stacks_total.trans path stack m next.greater more)) found walked.below)
-            (all-fronts (λ q. (m : Stack) → stack_cmp stack m ≡ Less → stack_cmp q m ≡ Less) stack c rest (λ n far near m more. take_below (n + 1) stack m more)));
+          (all_map (λ q below m more. below m (stacks_total.trans path stack m next.greater more)) found walked.below)
+          (all-fronts (λ q. (m : Stack) → stack_cmp stack m ≡ Less → stack_cmp q m ≡ Less) stack c rest (λ n far near m more. take_below (n + 1) stack m more)));
       met = λ p some none.
           let parts = or_parts (list_any (stack_eq p) found) (list_any (stack_eq p) new)
-              (sym (list_any-append (stack_eq p) found new) ∙ ap (list_any (stack_eq p)) (sym is) ∙ none) in
+          (sym (list_any-append (stack_eq p) found new) ∙ ap (list_any (stack_eq p)) (sym is) ∙ none) in
           ap (list_any (begins_with p)) (map-append (λ (e : Sample). e.0) samples ((stack, value) ∷ []))
           ∙ list_any-append (begins_with p) (keys_of samples) (stack ∷ [])
           ∙ (λ i. walked.met p some parts.0 i || (unmet p some parts.0 parts.1 i || false));
@@ -253,9 +254,9 @@ walked-push samples path stack value c walked next =
         ⊎_elim
         (λ near. true≢false (sym (next.there (length p - 1) near) ∙ ap (λ q. list_any (stack_eq q) (found_of samples)) front ∙ old))
         (λ far. true≢false (sym (list_any_at (stack_eq p) (fronts stack c (length stack - c)) (length p - 1 - c) []
-            (let all = length-map-range_with_len (λ n. take (n + 1) stack) c (length stack - c) in omega arith)
-            (same_stack p _ (sym front ∙ sym (get_or-map-range_with_len (λ n. take (n + 1) stack) c (length stack - c) (length p - 1 - c) (length p - 1) [] (omega arith) (omega arith)))))
-          ∙ new))
+        (let all = length-map-range_with_len (λ n. take (n + 1) stack) c (length stack - c) in omega arith)
+        (same_stack p _ (sym front ∙ sym (get_or-map-range_with_len (λ n. take (n + 1) stack) c (length stack - c) (length p - 1 - c) (length p - 1) [] (omega arith) (omega arith)))))
+        ∙ new))
         (cases_lt (length p - 1) c))
       where
         back : (n : ℕ) → 0 < n → n - 1 + 1 ≡ n

@@ -3,14 +3,17 @@ use Rattle.std.specs.Prelude.{◌≡◌, ℕ, List, [], ◌∷◌, codes, Some, 
 use Rattle.std.proofs.Common.{refl, arith}
 use Rattle.profile_model.specs.Sums as sums
 use Rattle.flamebearer.specs.Trees.{Node, firsts, node_of, tree_of}
-use Rattle.flamebearer.specs.Flames.{IsFlame, Shown, below, numbers_of, others, side_by_side}
+use Rattle.flamebearer.specs.Flames.{IsFlame, below, numbers_of, others, side_by_side}
 
 abbrev m : List ℕ
 m = codes "m"
+
 abbrev a : List ℕ
 a = codes "a"
+
 abbrev b : List ℕ
 b = codes "b"
+
 abbrev c : List ℕ
 c = codes "c"
 

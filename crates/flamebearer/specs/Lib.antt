@@ -1,3 +1,5 @@
 pub mod Trees
 pub mod Flames
+pub mod Parts
 pub mod Pushes
+pub mod Entries

@@ -1,7 +1,8 @@
 -- What one stack more does to a tree.
-use Rattle.std.specs.Prelude.{◌&&◌, ℕ, ◌+◌, ◌-◌, List, length, map, take, nat_lt, not, if◌then◌else◌}
+use Rattle.std.specs.Prelude.{◌≡◌, ◌&&◌, ◌++◌, ℕ, ◌+◌, ◌-◌, List, length, map, take, nat_lt, not, if◌then◌else◌}
 use Rattle.std.specs.List.{range_with_len}
 use Rattle.profile_model.specs.StackOrder.{stack_eq}
+use Rattle.flamebearer.specs.Parts.{PartAt}
 use Rattle.flamebearer.specs.Trees.{Node, begins_with}
 
 -- where a node of at most so many frames begins the stack, its total grows by the value
@@ -19,3 +20,9 @@ fresh stack value front = record { stack = front; own = if stack_eq front stack 
 -- what the stack begins with, from so many frames on, up to so many
 abbrev pub fronts : List (List ℕ) → ℕ → ℕ → List (List (List ℕ))
 fronts stack from count = map (λ n. take (n + 1) stack) (range_with_len from count)
+
+-- the nodes with a stack more, after one with which it shares some frames
+pub record IsPushed (before stack : List (List ℕ)) (value : ℕ) (old new : List Node) : Type 0 where
+  pub shared : ℕ
+  pub part : PartAt before stack shared
+  pub nodes : new ≡ map (grown shared stack value) old ++ map (fresh stack value) (fronts stack shared (length stack - shared))

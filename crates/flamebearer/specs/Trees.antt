@@ -1,7 +1,7 @@
 -- The tree of some stacks: what flame graphs are made of.
-use Rattle.std.specs.Prelude.{ℕ, ◌+◌, Bool, List, [], ◌∷◌, ◌++◌, length, map, take, fold, filter, sum_by, if◌then◌else◌}
+use Rattle.std.specs.Prelude.{ℕ, ◌+◌, Bool, List, [], ◌∷◌, ◌++◌, length, map, take, fold, filter, if◌then◌else◌}
 use Rattle.std.specs.List.{flat_map, list_any, range_with_len}
-use Rattle.std.specs.Map.{keys_of, values_of}
+use Rattle.std.specs.Map.{keys_of}
 use Rattle.profile_model.specs.Sums as sums
 use Rattle.profile_model.specs.Sums.{total_of, value_of}
 use Rattle.profile_model.specs.StackOrder.{stack_eq}

@@ -1,17 +1,152 @@
 // The tree of some stacks.
-ghost use Rattle.std.specs.Prelude.{◌≡◌};
+ghost use Rattle.std.specs.Prelude.{◌≡◌, ◌+◌, ◌-◌, ◌<◌, ◌++◌, [], ◌∷◌, length, map, take, IfOk, List, ℕ, OnOk};
+ghost use Rattle.std.specs.Prelude.{◌^◌};
+ghost use Rattle.std.specs.List.{AllByRecursion, IsDistinct};
+ghost use Rattle.std.specs.declared.cmp.Ordering.TheVariants.{Less};
+ghost use Rattle.profile_model.specs.Stacks.{stack_cmp};
+ghost use Rattle.profile_model.specs.StackOrder.{stack_eq};
+ghost use Rattle.flamebearer.specs.Entries.{ArePlaces, CanGrow, nodes_of, path_after, stacks_of};
+ghost use Rattle.flamebearer.specs.Parts.{PartAt};
+ghost use Rattle.flamebearer.specs.Pushes.{fresh, fronts, grown, IsPushed};
 
-use std::alloc::AllocError;
+use profile_model::{Name, StackSums};
+use std::alloc::{AllocError, Global};
+use std::marker::Model;
 
-/// Placeholder.
+/// Each stack that was met or begins one that was, in preorder, with its values.
+#[derive(Drop)]
 pub struct Tree {
-    total: u64,
+    entries: Vec<Entry>,
+}
+
+impl Model for Tree {
+    ghost use Rattle.std.specs.Prelude.{List};
+    ghost use Rattle.flamebearer.specs.Trees.{Node};
+    ghost use Rattle.flamebearer.specs.Entries.{nodes_of};
+
+    ghost Value = { List Node };
+
+    ghost view = { λ t. nodes_of t.entries.items };
 }
 
 impl Tree {
-    pub fn total(&self) -> u64
-        ensures { result ≡ result }
+    ghost use Rattle.flamebearer.specs.Trees.{tree_of};
+
+    /// The tree of these stacks. It copies no bytes of their frames.
+    pub fn of(alloc: Global, values: &StackSums) -> Result<Tree, AllocError>
+        ensures tree { IfOk result (λ tree. tree ≡ tree_of values.now) }
     {
-        self.total
+        let mut entries = Vec::new(alloc);
+        let mut spine = Vec::new(alloc);
+        let mut before: &[Name] = &[];
+        for (stack, value) in values.iter() {
+            push_stack(&mut entries, &mut spine, before, stack.frames(), *value)?;
+            before = stack.frames();
+        }
+        Ok(Tree { entries })
     }
+}
+
+// A node's last frame and how deep it stands, from 1.
+#[derive(Drop)]
+struct Entry {
+    name: Name,
+    depth: usize,
+    own: u64,
+    total: u64,
+}
+
+// How many frames two stacks share from the root on.
+fn shared_frames(first: &[Name], second: &[Name]) -> usize
+    ensures { PartAt first.now second.now result }
+{
+    let mut shared = 0;
+    while shared < first.len() && shared < second.len() && first[shared] == second[shared] {
+        shared += 1;
+    }
+    shared
+}
+
+// The value comes to the nodes at these places, which are fronts of the last one's stack.
+fn grow(entries: &mut Vec<Entry>, spine: &[usize], value: u64)
+    requires { CanGrow entries.old.items spine.now (path_after [] entries.old.items) value }
+    ensures nodes { nodes_of entries.new.items ≡ map (grown (length spine.now) (path_after [] entries.old.items) value) (nodes_of entries.old.items) }
+    ensures path { path_after [] entries.new.items ≡ path_after [] entries.old.items }
+    ensures many { length entries.new.items ≡ length entries.old.items }
+{
+    for at in spine {
+        entries[*at].total += value;
+    }
+}
+
+// The node of the stack's frame at this place.
+fn push_frame(
+    entries: &mut Vec<Entry>,
+    spine: &mut Vec<usize>,
+    frames: &[Name],
+    at: usize,
+    value: u64,
+) -> Result<(), AllocError>
+    requires within { at < length frames.now }
+    requires path { take at (path_after [] entries.old.items) ≡ take at frames.now }
+    requires places { ArePlaces entries.old.items spine.old.items frames.now at }
+    ensures nodes { OnOk result (nodes_of entries.new.items ≡ nodes_of entries.old.items ++ fresh frames.now value (take (at + 1) frames.now) ∷ []) }
+    ensures path { OnOk result (path_after [] entries.new.items ≡ take (at + 1) frames.now) }
+    ensures places { OnOk result (ArePlaces entries.new.items spine.new.items frames.now (at + 1)) }
+{
+    let own = if at + 1 == frames.len() { value } else { 0 };
+    spine.push(entries.len())?;
+    entries.push(Entry {
+        name: frames[at].clone()?,
+        depth: at + 1,
+        own,
+        total: value,
+    })?;
+    Ok(())
+}
+
+// The nodes of the stack's frames from this place on.
+fn push_rest(
+    entries: &mut Vec<Entry>,
+    spine: &mut Vec<usize>,
+    frames: &[Name],
+    shared: usize,
+    value: u64,
+) -> Result<(), AllocError>
+    requires within { shared < length frames.now }
+    requires path { take shared (path_after [] entries.old.items) ≡ take shared frames.now }
+    requires places { ArePlaces entries.old.items spine.old.items frames.now shared }
+    ensures nodes { OnOk result (nodes_of entries.new.items ≡ nodes_of entries.old.items ++ map (fresh frames.now value) (fronts frames.now shared (length frames.now - shared))) }
+    ensures path { OnOk result (path_after [] entries.new.items ≡ frames.now) }
+    ensures places { OnOk result (ArePlaces entries.new.items spine.new.items frames.now (length frames.now)) }
+{
+    for at in shared..frames.len() {
+        push_frame(entries, spine, frames, at, value)?;
+    }
+    Ok(())
+}
+
+// The nodes with a stack more, which is greater than the one before.
+fn push_stack(
+    entries: &mut Vec<Entry>,
+    spine: &mut Vec<usize>,
+    before: &[Name],
+    frames: &[Name],
+    value: u64,
+) -> Result<(), AllocError>
+    requires places { ArePlaces entries.old.items spine.old.items before.now (length before.now) }
+    requires path { path_after [] entries.old.items ≡ before.now }
+    requires greater { stack_cmp before.now frames.now ≡ Less }
+    requires distinct { IsDistinct stack_eq (stacks_of entries.old.items) }
+    requires fits { AllByRecursion (λ node. node.total + value < 2 ^ 63) (nodes_of entries.old.items) }
+    requires small { value < 2 ^ 63 }
+    ensures nodes { OnOk result (IsPushed before.now frames.now value (nodes_of entries.old.items) (nodes_of entries.new.items)) }
+    ensures path { OnOk result (path_after [] entries.new.items ≡ frames.now) }
+    ensures places { OnOk result (ArePlaces entries.new.items spine.new.items frames.now (length frames.now)) }
+{
+    let shared = shared_frames(before, frames);
+    spine.truncate(shared);
+    grow(entries, spine, value);
+    push_rest(entries, spine, frames, shared, value)?;
+    Ok(())
 }

@@ -1,0 +1,131 @@
+-- Where the making of a tree stands between two stacks.
+use Rattle.std.proofs.Common.{◌≡◌, ℕ, ◌+◌, ◌-◌, ◌^◌, ◌<◌, ◌⊎◌, inl, inr, List, [], ◌∷◌, ◌++◌, length, map, take, get_or, arith, refl, sym, ap, ◌∙◌, subst, append_assoc, ⊎_elim}
+use Rattle.std.specs.Prelude.{sum_by}
+use Rattle.std.specs.List.{AllByRecursion, IsDistinct, list_any}
+use Rattle.std.specs.List.Sorted.{IsStrictlySortedBy}
+use Rattle.std.specs.Map.{keys_of, values_of}
+use Rattle.std.specs.declared.cmp.Ordering.TheVariants.{Less}
+use Rattle.std.proofs.lemmas.List.{map-append}
+use Rattle.std.proofs.lemmas.List.Sums.{sum_by-append, sum_by-cons}
+use Rattle.std.proofs.lemmas.List.Folds.{list_any_at}
+use Rattle.profile_model.specs.Stacks.{stack_cmp}
+use Rattle.profile_model.specs.StackOrder.{stack_eq}
+use Rattle.profile_model.specs.Sums.{Sample, total_of, AreSums}
+use Rattle.flamebearer.specs.declared.tree.Entry.{Entry}
+use Rattle.flamebearer.specs.Trees.{Node, firsts, node_of, tree_of}
+use Rattle.flamebearer.specs.Entries.{ArePlaces, nodes_of, path_after, stacks_of}
+use Rattle.flamebearer.specs.Pushes.{IsPushed, fresh, fronts, grown}
+use Rattle.flamebearer.proofs.PrefixLemmas.{same_stack}
+use Rattle.flamebearer.proofs.FirstLemmas.{found_of}
+use Rattle.flamebearer.proofs.WalkLemmas.{IsWalked, IsNext, total-le, tree-push, walked-none, walked-push}
+use Rattle.flamebearer.proofs.NodeLemmas.{length-stacks, take-front}
+
+pub record IsAlong (values rest : List Sample) (before : List (List ℕ)) (entries : List Entry) (spine : List ℕ) : Type 0 where
+  pub done : List Sample
+  pub whole : done ++ rest ≡ values
+  pub nodes : nodes_of entries ≡ tree_of done
+  pub path : path_after [] entries ≡ before
+  pub places : ArePlaces entries spine before (length before)
+  pub walked : IsWalked done before
+  pub sorted : IsStrictlySortedBy stack_cmp (keys_of rest)
+  pub above : (before ≡ []) ⊎ AllByRecursion (λ key. stack_cmp before key ≡ Less) (keys_of rest)
+  pub bounded : total_of values < 2 ^ 63
+
+pub along-none : (values : List Sample) → AreSums values → IsAlong values values [] [] []
+unfolding tree_of firsts
+along-none values sums = record {
+  done = [];
+  whole = refl;
+  nodes = refl;
+  path = refl;
+  places = record { many = refl; within = λ n near. absurd (omega arith); are = λ n near. absurd (omega arith) };
+  walked = walked-none;
+  sorted = sums.ascending;
+  above = inl refl;
+  bounded = sums.bounded;
+}
+
+-- at the end
+pub along-end : (values rest : List Sample) (before : List (List ℕ)) (entries : List Entry) (spine : List ℕ) → IsAlong values rest before entries spine
+    → rest ≡ [] → nodes_of entries ≡ tree_of values
+along-end values rest before entries spine along none =
+    along.nodes ∙ ap tree_of (sym (append-none along.done) ∙ ap (λ r. along.done ++ r) (sym none) ∙ along.whole)
+  where
+    append-none : (xs : List Sample) → xs ++ [] ≡ xs
+    append-none [] = refl
+    append-none (x ∷ xs) = ap (λ r. x ∷ r) (append-none xs)
+
+stacks-found : (samples : List Sample) (entries : List Entry) → nodes_of entries ≡ tree_of samples → stacks_of entries ≡ found_of samples
+unfolding tree_of node_of
+stacks-found samples entries nodes = ap (map (λ (n : Node). n.stack)) nodes ∙ each (found_of samples)
+  where
+    each : (found : List (List (List ℕ))) → map (λ (n : Node). n.stack) (map (node_of samples) found) ≡ found
+    each [] = refl
+    each (s ∷ found) = ap (λ r. s ∷ r) (each found)
+
+total-whole : (done rest : List Sample) → total_of (done ++ rest) ≡ total_of done + total_of rest
+total-whole done rest = ap (sum_by (λ (v : ℕ). v)) (map-append (λ (e : Sample). e.1) done rest) ∙ sum_by-append (λ (v : ℕ). v) (values_of done) (values_of rest)
+
+-- what the next stack finds
+pub record IsReady (before : List (List ℕ)) (entries : List Entry) (stack : List (List ℕ)) (value : ℕ) : Type 0 where
+  pub greater : stack_cmp before stack ≡ Less
+  pub distinct : IsDistinct stack_eq (stacks_of entries)
+  pub fits : AllByRecursion (λ node. node.total + value < 2 ^ 63) (nodes_of entries)
+  pub small : value < 2 ^ 63
+
+pub ready : (values all rest : List Sample) (before : List (List ℕ)) (entries : List Entry) (spine : List ℕ) (stack : List (List ℕ)) (value : ℕ)
+    → IsAlong values all before entries spine → all ≡ (stack, value) ∷ rest → 0 < length stack → IsReady before entries stack value
+unfolding tree_of node_of
+ready values all rest before entries spine stack value along is some =
+    let whole = total-whole along.done all in
+    let first : total_of all ≡ value + total_of rest = ap total_of is ∙ sum_by-cons (λ (v : ℕ). v) value (values_of rest) in
+    let sum : total_of values ≡ total_of along.done + (value + total_of rest) = ap total_of (sym along.whole) ∙ whole ∙ ap (λ n. total_of along.done + n) first in
+    let bounded = along.bounded in
+    record {
+      greater = ⊎_elim (λ none. from-none stack some none) (λ above. (subst (λ a. AllByRecursion (λ key. stack_cmp before key ≡ Less) (keys_of a)) is above).0) along.above;
+      distinct = subst (IsDistinct stack_eq) (sym (stacks-found along.done entries along.nodes)) along.walked.distinct;
+      fits = subst (AllByRecursion (λ node. node.total + value < 2 ^ 63)) (sym along.nodes) (each along.done (omega arith) (found_of along.done));
+      small = omega arith;
+    }
+  where
+    from-none : (stack : List (List ℕ)) → 0 < length stack → before ≡ [] → stack_cmp before stack ≡ Less
+    from-none [] some none = absurd (omega arith)
+    from-none (x ∷ xs) some none = ap (λ b. stack_cmp b (x ∷ xs)) none
+
+    each : (done : List Sample) → total_of done + value < 2 ^ 63 → (found : List (List (List ℕ))) → AllByRecursion (λ node. node.total + value < 2 ^ 63) (map (node_of done) found)
+    each done few [] = tt
+    each done few (s ∷ found) = ((let le = total-le s done in omega arith), each done few found)
+
+pub along-push : (values all rest : List Sample) (before : List (List ℕ)) (entries new : List Entry) (spine after : List ℕ) (stack : List (List ℕ)) (value : ℕ)
+    → IsAlong values all before entries spine → all ≡ (stack, value) ∷ rest → 0 < length stack
+    → IsPushed before stack value (nodes_of entries) (nodes_of new) → path_after [] new ≡ stack → ArePlaces new after stack (length stack)
+    → IsAlong values rest stack new after
+unfolding IsStrictlySortedBy
+along-push values all rest before entries new spine after stack value along is some pushed path places =
+    let set = ready values all rest before entries spine stack value along is some in
+    let found = stacks-found along.done entries along.nodes in
+    let sorted = subst (λ a. IsStrictlySortedBy stack_cmp (keys_of a)) is along.sorted in
+    let inner = pushed.part.in_first in
+    let next : IsNext along.done before stack pushed.shared = record {
+      part = pushed.part;
+      greater = set.greater;
+      there = λ n near.
+          let within = along.places.within n (omega arith) in
+          let count = length-stacks entries in
+          let front = along.places.are n (omega arith) ∙ take-front (n + 1) pushed.shared before stack (omega arith) pushed.part.shared in
+          ap (list_any (stack_eq (take (n + 1) stack))) (sym found)
+          ∙ list_any_at (stack_eq (take (n + 1) stack)) (stacks_of entries) (get_or spine n 0) [] (omega arith) (same_stack (take (n + 1) stack) _ (sym front));
+    } in
+    record {
+      done = along.done ++ (stack, value) ∷ [];
+      whole = append_assoc along.done ((stack, value) ∷ []) rest ∙ ap (λ r. along.done ++ r) (sym is) ∙ along.whole;
+      nodes = pushed.nodes
+          ∙ ap (λ ns. map (grown pushed.shared stack value) ns ++ map (fresh stack value) (fronts stack pushed.shared (length stack - pushed.shared))) along.nodes
+          ∙ sym (tree-push along.done before stack value pushed.shared along.walked next);
+      path = path;
+      places = places;
+      walked = walked-push along.done before stack value pushed.shared along.walked next;
+      sorted = sorted.1;
+      above = inr sorted.0;
+      bounded = along.bounded;
+    }

@@ -4,3 +4,4 @@ pub mod FirstLemmas
 pub mod WalkLemmas
 pub mod NodeLemmas
 pub mod AlongLemmas
+pub mod EndLemmas

@@ -3,3 +3,4 @@ pub mod Flames
 pub mod Parts
 pub mod Pushes
 pub mod Entries
+pub mod Ends

@@ -5,6 +5,7 @@ ghost use Rattle.std.specs.List.{AllByRecursion, IsDistinct};
 ghost use Rattle.std.specs.declared.cmp.Ordering.TheVariants.{Less};
 ghost use Rattle.profile_model.specs.Stacks.{stack_cmp};
 ghost use Rattle.profile_model.specs.StackOrder.{stack_eq};
+ghost use Rattle.flamebearer.specs.Ends.{AreEnds, IsEnd, depths_of};
 ghost use Rattle.flamebearer.specs.Entries.{ArePlaces, CanGrow, nodes_of, path_after, stacks_of};
 ghost use Rattle.flamebearer.specs.Parts.{PartAt};
 ghost use Rattle.flamebearer.specs.Pushes.{fresh, fronts, grown, IsPushed};
@@ -17,16 +18,20 @@ use std::marker::Model;
 #[derive(Drop)]
 pub struct Tree {
     entries: Vec<Entry>,
+    ends: Vec<usize>,
 }
 
 impl Model for Tree {
     ghost use Rattle.std.specs.Prelude.{List};
     ghost use Rattle.flamebearer.specs.Trees.{Node};
     ghost use Rattle.flamebearer.specs.Entries.{nodes_of};
+    ghost use Rattle.flamebearer.specs.Ends.{AreEnds, depths_of};
 
     ghost Value = { List Node };
 
     ghost view = { λ t. nodes_of t.entries.items };
+
+    ghost invariant = { λ t. AreEnds 0 (depths_of t.entries.items) t.ends.items };
 }
 
 impl Tree {
@@ -43,7 +48,8 @@ impl Tree {
             push_stack(&mut entries, &mut spine, before, stack.frames(), *value)?;
             before = stack.frames();
         }
-        Ok(Tree { entries })
+        let ends = ends_of(alloc, &entries)?;
+        Ok(Tree { entries, ends })
     }
 }
 
@@ -149,4 +155,31 @@ fn push_stack(
     grow(entries, spine, value);
     push_rest(entries, spine, frames, shared, value)?;
     Ok(())
+}
+
+// For each node the place of the first later one that doesn't stand below it.
+fn ends_of(alloc: Global, entries: &[Entry]) -> Result<Vec<usize>, AllocError>
+    ensures { IfOk result (λ ends. AreEnds 0 (depths_of entries.now) ends.items) }
+{
+    let mut ends = vec![in alloc; 0; entries.len()]?;
+    let mut at = entries.len();
+    while at > 0 {
+        at -= 1;
+        ends[at] = end_of(entries, &ends, at);
+    }
+    Ok(ends)
+}
+
+// What is deeper ends where its own last one does, so the search steps over whole subtrees.
+fn end_of(entries: &[Entry], ends: &[usize], at: usize) -> usize
+    requires within { at < length entries.now }
+    requires ends { AreEnds (at + 1) (depths_of entries.now) ends.now }
+    ensures { IsEnd (depths_of entries.now) at result }
+{
+    let depth = entries[at].depth;
+    let mut end = at + 1;
+    while end < entries.len() && depth < entries[end].depth {
+        end = ends[end];
+    }
+    end
 }

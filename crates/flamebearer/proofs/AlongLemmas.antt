@@ -1,11 +1,12 @@
 -- Where the making of a tree stands between two stacks.
 use Rattle.std.proofs.Common.{◌≡◌, ℕ, ◌+◌, ◌-◌, ◌^◌, ◌<◌, ◌⊎◌, inl, inr, List, [], ◌∷◌, ◌++◌, length, map, take, get_or, arith, refl, sym, ap, ◌∙◌, subst, append_assoc, ⊎_elim}
 use Rattle.std.specs.Prelude.{sum_by}
-use Rattle.std.specs.List.{AllByRecursion, IsDistinct, list_any}
+use Rattle.std.specs.List.{All, AllByRecursion, IsDistinct, list_any}
 use Rattle.std.specs.List.Sorted.{IsStrictlySortedBy}
 use Rattle.std.specs.Map.{keys_of, values_of}
 use Rattle.std.specs.declared.cmp.Ordering.TheVariants.{Less}
 use Rattle.std.proofs.lemmas.List.{map-append}
+use Rattle.std.proofs.lemmas.List.Elements.{All-from_recursion}
 use Rattle.std.proofs.lemmas.List.Sums.{sum_by-append, sum_by-cons}
 use Rattle.std.proofs.lemmas.List.Folds.{list_any_at}
 use Rattle.profile_model.specs.Stacks.{stack_cmp}
@@ -13,7 +14,7 @@ use Rattle.profile_model.specs.StackOrder.{stack_eq}
 use Rattle.profile_model.specs.Sums.{Sample, total_of, AreSums}
 use Rattle.flamebearer.specs.declared.tree.Entry.{Entry}
 use Rattle.flamebearer.specs.Trees.{Node, firsts, node_of, tree_of}
-use Rattle.flamebearer.specs.Entries.{ArePlaces, nodes_of, path_after, stacks_of}
+use Rattle.flamebearer.specs.Entries.{AreDeep, ArePlaces, nodes_of, path_after, stacks_of}
 use Rattle.flamebearer.specs.Pushes.{IsPushed, fresh, fronts, grown}
 use Rattle.flamebearer.proofs.PrefixLemmas.{same_stack}
 use Rattle.flamebearer.proofs.FirstLemmas.{found_of}
@@ -27,6 +28,7 @@ pub record IsAlong (values rest : List Sample) (before : List (List ℕ)) (entri
   pub path : path_after [] entries ≡ before
   pub places : ArePlaces entries spine before (length before)
   pub walked : IsWalked done before
+  pub deep : AreDeep entries
   pub sorted : IsStrictlySortedBy stack_cmp (keys_of rest)
   pub above : (before ≡ []) ⊎ AllByRecursion (λ key. stack_cmp before key ≡ Less) (keys_of rest)
   pub bounded : total_of values < 2 ^ 63
@@ -40,6 +42,7 @@ along-none values sums = record {
   path = refl;
   places = record { many = refl; within = λ n near. absurd (omega arith); are = λ n near. absurd (omega arith) };
   walked = walked-none;
+  deep = refl;
   sorted = sums.ascending;
   above = inl refl;
   bounded = sums.bounded;
@@ -99,9 +102,9 @@ ready values all rest before entries spine stack value along is some =
 pub along-push : (values all rest : List Sample) (before : List (List ℕ)) (entries new : List Entry) (spine after : List ℕ) (stack : List (List ℕ)) (value : ℕ)
     → IsAlong values all before entries spine → all ≡ (stack, value) ∷ rest → 0 < length stack
     → IsPushed before stack value (nodes_of entries) (nodes_of new) → path_after [] new ≡ stack → ArePlaces new after stack (length stack)
-    → IsAlong values rest stack new after
+    → (AreDeep entries → AreDeep new) → IsAlong values rest stack new after
 unfolding IsStrictlySortedBy
-along-push values all rest before entries new spine after stack value along is some pushed path places =
+along-push values all rest before entries new spine after stack value along is some pushed path places deep =
     let set = ready values all rest before entries spine stack value along is some in
     let found = stacks-found along.done entries along.nodes in
     let sorted = subst (λ a. IsStrictlySortedBy stack_cmp (keys_of a)) is along.sorted in
@@ -125,7 +128,22 @@ along-push values all rest before entries new spine after stack value along is s
       path = path;
       places = places;
       walked = walked-push along.done before stack value pushed.shared along.walked next;
+      deep = deep along.deep;
       sorted = sorted.1;
       above = inr sorted.0;
       bounded = along.bounded;
     }
+
+pub along-fits : (values rest : List Sample) (before : List (List ℕ)) (entries : List Entry) (spine : List ℕ) → IsAlong values rest before entries spine
+    → All (λ node. node.total < 2 ^ 63) (nodes_of entries)
+unfolding tree_of node_of
+along-fits values rest before entries spine along =
+    let whole = total-whole along.done rest in
+    let all : total_of values ≡ total_of along.done + total_of rest = ap total_of (sym along.whole) ∙ whole in
+    let bounded = along.bounded in
+    All-from_recursion (λ node. node.total < 2 ^ 63) (nodes_of entries)
+    (subst (AllByRecursion (λ node. node.total < 2 ^ 63)) (sym along.nodes) (each along.done (omega arith) (found_of along.done)))
+  where
+    each : (done : List Sample) → total_of done < 2 ^ 63 → (found : List (List (List ℕ))) → AllByRecursion (λ node. node.total < 2 ^ 63) (map (node_of done) found)
+    each done few [] = tt
+    each done few (s ∷ found) = ((let le = total-le s done in omega arith), each done few found)

@@ -3,7 +3,8 @@ use Rattle.std.proofs.Common.{◌≡◌, ℕ, ◌+◌, ◌<◌, ◌≤◌, List,
 use Rattle.std.proofs.lemmas.Bool.{cases_lt}
 use Rattle.std.proofs.lemmas.List.{get_or-map, get_or-set_other, get_or-set_same, length-map, length-set}
 use Rattle.flamebearer.specs.declared.tree.Entry.{Entry}
-use Rattle.flamebearer.specs.Ends.{AreEnds, IsEnd, depths_of}
+use Rattle.flamebearer.specs.Ends.{AreEnds, IsEnd}
+use Rattle.flamebearer.specs.Entries.{depths_of}
 
 -- all between are deeper
 pub record AreDeeper (depths : List ℕ) (at end : ℕ) : Type 0 where

@@ -8,7 +8,7 @@ use Rattle.std.proofs.lemmas.List.{append_assoc, get_or-take, get_or_append_left
 use Rattle.std.proofs.lemmas.List.FromFn.{map-range_with_len_more}
 use Rattle.profile_model.specs.StackOrder.{stack_eq, stacks_equiv}
 use Rattle.flamebearer.specs.Trees.{Node, begins_with}
-use Rattle.flamebearer.specs.Entries.{ArePlaces, nodes_of, stacks_of, nodes_after, path_after, stack_of}
+use Rattle.flamebearer.specs.Entries.{AreDeep, ArePlaces, depths_of, nodes_of, stacks_of, nodes_after, path_after, stack_of}
 use Rattle.flamebearer.specs.Pushes.{fresh, fronts, grown}
 use Rattle.flamebearer.specs.declared.tree.Entry.{Entry}
 use Rattle.flamebearer.proofs.PrefixLemmas.{begins_with_take, begun, other_length, same_stack}
@@ -328,6 +328,28 @@ places-grown entries new spine stack other count shared value places many nodes 
   within = λ n near. let was = places.within n near in omega arith;
   are = λ n near. ap (λ s. get_or s (get_or spine n 0) []) (ap (map (λ (n : Node). n.stack)) nodes ∙ each (nodes_of entries)) ∙ places.are n near;
 }
+  where
+    each : (ns : List Node) → map (λ (n : Node). n.stack) (map (grown shared other value) ns) ≡ map (λ (n : Node). n.stack) ns
+    each [] = refl
+    each (n ∷ ns) = ap (λ r. n.stack ∷ r) (each ns)
+
+-- ---- depths
+
+pub deep-pushed : (entries new : List Entry) (e : Entry) (frames : List (List ℕ)) (at value : ℕ) → at < length frames → e.depth ≡ at + 1 → new ≡ entries ++ e ∷ []
+    → nodes_of new ≡ nodes_of entries ++ fresh frames value (take (at + 1) frames) ∷ [] → AreDeep entries → AreDeep new
+unfolding fresh
+deep-pushed entries new e frames at value within depth made nodes deep =
+    let stacks : stacks_of new ≡ stacks_of entries ++ take (at + 1) frames ∷ [] =
+    ap (map (λ (n : Node). n.stack)) nodes ∙ map-append (λ (n : Node). n.stack) (nodes_of entries) _ in
+    let long : e.depth ≡ length (take (at + 1) frames) = depth ∙ sym (length-take-le (at + 1) frames (omega arith)) in
+    ap depths_of made ∙ map-append (λ (x : Entry). x.depth) entries (e ∷ []) ∙ (λ i. deep i ++ long i ∷ [])
+    ∙ sym (map-append length (stacks_of entries) (take (at + 1) frames ∷ [])) ∙ ap (map length) (sym stacks)
+
+pub deep-grown : (entries new : List Entry) (other : List (List ℕ)) (shared value : ℕ) → depths_of new ≡ depths_of entries
+    → nodes_of new ≡ map (grown shared other value) (nodes_of entries) → AreDeep entries → AreDeep new
+unfolding grown
+deep-grown entries new other shared value depths nodes deep =
+    depths ∙ deep ∙ ap (map length) (sym (ap (map (λ (n : Node). n.stack)) nodes ∙ each (nodes_of entries)))
   where
     each : (ns : List Node) → map (λ (n : Node). n.stack) (map (grown shared other value) ns) ≡ map (λ (n : Node). n.stack) ns
     each [] = refl

@@ -1,9 +1,5 @@
 -- Where subtrees end, in a list of depths in preorder.
-use Rattle.std.specs.Prelude.{◌≡◌, ℕ, ◌<◌, ◌≤◌, List, length, map, get_or}
-use Rattle.flamebearer.specs.declared.tree.Entry.{Entry}
-
-abbrev pub depths_of : List Entry → List ℕ
-depths_of entries = map (λ entry. entry.depth) entries
+use Rattle.std.specs.Prelude.{◌≡◌, ℕ, ◌<◌, ◌≤◌, List, length, get_or}
 
 -- the first later place that doesn't stand below this one
 pub record IsEnd (depths : List ℕ) (at end : ℕ) : Type 0 where

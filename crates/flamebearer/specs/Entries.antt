@@ -26,6 +26,13 @@ path_after path (entry ∷ more) = path_after (stack_of path entry) more
 abbrev pub stacks_of : List Entry → List (List (List ℕ))
 stacks_of entries = map (λ node. node.stack) (nodes_of entries)
 
+abbrev pub depths_of : List Entry → List ℕ
+depths_of entries = map (λ entry. entry.depth) entries
+
+-- each entry stands as deep as its stack has frames
+abbrev pub AreDeep : List Entry → Type 0
+AreDeep entries = depths_of entries ≡ map length (stacks_of entries)
+
 -- the places of the first so many fronts of a stack
 pub record ArePlaces (entries : List Entry) (spine : List ℕ) (stack : List (List ℕ)) (count : ℕ) : Type 0 where
   pub many : length spine ≡ count

@@ -5,8 +5,8 @@ ghost use Rattle.std.specs.List.{AllByRecursion, IsDistinct};
 ghost use Rattle.std.specs.declared.cmp.Ordering.TheVariants.{Less};
 ghost use Rattle.profile_model.specs.Stacks.{stack_cmp};
 ghost use Rattle.profile_model.specs.StackOrder.{stack_eq};
-ghost use Rattle.flamebearer.specs.Ends.{AreEnds, IsEnd, depths_of};
-ghost use Rattle.flamebearer.specs.Entries.{ArePlaces, CanGrow, nodes_of, path_after, stacks_of};
+ghost use Rattle.flamebearer.specs.Ends.{AreEnds, IsEnd};
+ghost use Rattle.flamebearer.specs.Entries.{AreDeep, ArePlaces, CanGrow, depths_of, nodes_of, path_after, stacks_of};
 ghost use Rattle.flamebearer.specs.Parts.{PartAt};
 ghost use Rattle.flamebearer.specs.Pushes.{fresh, fronts, grown, IsPushed};
 
@@ -22,16 +22,17 @@ pub struct Tree {
 }
 
 impl Model for Tree {
-    ghost use Rattle.std.specs.Prelude.{List};
+    ghost use Rattle.std.specs.Prelude.{List, ◌<◌, ◌^◌};
+    ghost use Rattle.std.specs.List.{All};
     ghost use Rattle.flamebearer.specs.Trees.{Node};
-    ghost use Rattle.flamebearer.specs.Entries.{nodes_of};
-    ghost use Rattle.flamebearer.specs.Ends.{AreEnds, depths_of};
+    ghost use Rattle.flamebearer.specs.Entries.{AreDeep, depths_of, nodes_of};
+    ghost use Rattle.flamebearer.specs.Ends.{AreEnds};
 
     ghost Value = { List Node };
 
     ghost view = { λ t. nodes_of t.entries.items };
 
-    ghost invariant = { λ t. AreEnds 0 (depths_of t.entries.items) t.ends.items };
+    ghost invariant = { λ t. AreDeep t.entries.items × AreEnds 0 (depths_of t.entries.items) t.ends.items × All (λ node. node.total < 2 ^ 63) (nodes_of t.entries.items) };
 }
 
 impl Tree {
@@ -79,6 +80,7 @@ fn grow(entries: &mut Vec<Entry>, spine: &[usize], value: u64)
     ensures nodes { nodes_of entries.new.items ≡ map (grown (length spine.now) (path_after [] entries.old.items) value) (nodes_of entries.old.items) }
     ensures path { path_after [] entries.new.items ≡ path_after [] entries.old.items }
     ensures many { length entries.new.items ≡ length entries.old.items }
+    ensures depths { depths_of entries.new.items ≡ depths_of entries.old.items }
 {
     for at in spine {
         entries[*at].total += value;
@@ -99,6 +101,7 @@ fn push_frame(
     ensures nodes { OnOk result (nodes_of entries.new.items ≡ nodes_of entries.old.items ++ fresh frames.now value (take (at + 1) frames.now) ∷ []) }
     ensures path { OnOk result (path_after [] entries.new.items ≡ take (at + 1) frames.now) }
     ensures places { OnOk result (ArePlaces entries.new.items spine.new.items frames.now (at + 1)) }
+    ensures deep { OnOk result (AreDeep entries.old.items → AreDeep entries.new.items) }
 {
     let own = if at + 1 == frames.len() { value } else { 0 };
     spine.push(entries.len())?;
@@ -125,6 +128,7 @@ fn push_rest(
     ensures nodes { OnOk result (nodes_of entries.new.items ≡ nodes_of entries.old.items ++ map (fresh frames.now value) (fronts frames.now shared (length frames.now - shared))) }
     ensures path { OnOk result (path_after [] entries.new.items ≡ frames.now) }
     ensures places { OnOk result (ArePlaces entries.new.items spine.new.items frames.now (length frames.now)) }
+    ensures deep { OnOk result (AreDeep entries.old.items → AreDeep entries.new.items) }
 {
     for at in shared..frames.len() {
         push_frame(entries, spine, frames, at, value)?;
@@ -149,6 +153,7 @@ fn push_stack(
     ensures nodes { OnOk result (IsPushed before.now frames.now value (nodes_of entries.old.items) (nodes_of entries.new.items)) }
     ensures path { OnOk result (path_after [] entries.new.items ≡ frames.now) }
     ensures places { OnOk result (ArePlaces entries.new.items spine.new.items frames.now (length frames.now)) }
+    ensures deep { OnOk result (AreDeep entries.old.items → AreDeep entries.new.items) }
 {
     let shared = shared_frames(before, frames);
     spine.truncate(shared);

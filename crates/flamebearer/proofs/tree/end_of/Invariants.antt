@@ -1,5 +1,5 @@
 use Rattle.std.proofs.Common.{◌-◌, length}
-use Rattle.flamebearer.specs.Ends.{depths_of}
+use Rattle.flamebearer.specs.Entries.{depths_of}
 use Rattle.flamebearer.proofs.EndLemmas.{AreDeeper}
 use Rattle.flamebearer.proofs.tree.end_of.Given as goal
 

@@ -1,5 +1,6 @@
 use Rattle.std.proofs.Common.{◌≤◌, length}
-use Rattle.flamebearer.specs.Ends.{AreEnds, depths_of}
+use Rattle.flamebearer.specs.Ends.{AreEnds}
+use Rattle.flamebearer.specs.Entries.{depths_of}
 use Rattle.flamebearer.proofs.tree.ends_of.Given as goal
 
 abbrev pub invariant-loop-at : goal.invariant-loop-at

@@ -1,6 +1,8 @@
 use Rattle.std.proofs.Common.{◌+◌, [], get_or, ap, arith, refl, ◌∙◌}
 use Rattle.std.proofs.lemmas.List.{length-set}
 use Rattle.flamebearer.specs.Entries.{nodes_of, path_after}
+use Rattle.std.proofs.Math.Seq.{map-set_same}
+use Rattle.flamebearer.specs.declared.tree.Entry.{Entry}
 use Rattle.flamebearer.proofs.NodeLemmas.{grown-none, grown-step, nodes-some, total-fits}
 use Rattle.flamebearer.proofs.tree.grow.Goals as goal
 
@@ -8,6 +10,7 @@ pub loop-at-init : goal.loop-at-init
 loop-at-init c = record {
   nodes = grown-none (path_after [] c.args.entries.now.items) c.args.value (nodes_of c.args.entries.now.items) (nodes-some [] c.args.entries.now.items);
   path = refl;
+  depths = refl;
   many = refl;
 }
 
@@ -37,5 +40,6 @@ loop-at-preserved c =
     record {
       nodes = step.0;
       path = step.1 ∙ c.loop-at.invariant.path;
+      depths = map-set_same (λ (e : Entry). e.depth) c.loop-at.entries.items i _ c.index_mut.result.now (ap (λ e. e.depth) value) ∙ c.loop-at.invariant.depths;
       many = length-set c.loop-at.entries.items i _ ∙ many;
     }

@@ -2,7 +2,7 @@ use Rattle.std.proofs.Common.{◌≡◌, ◌+◌, ◌∷◌, [], ◌++◌, take,
 use Rattle.std.specs.Prelude.{if◌then◌else◌}
 use Rattle.std.proofs.lemmas.List.{get_or_default}
 use Rattle.profile_model.specs.StackOrder.{stack_eq}
-use Rattle.flamebearer.proofs.NodeLemmas.{frame-pushed, own-last, own-more, places-more}
+use Rattle.flamebearer.proofs.NodeLemmas.{deep-pushed, frame-pushed, own-last, own-more, places-more}
 use Rattle.flamebearer.proofs.tree.push_frame.Goals as goal
 use Rattle.flamebearer.proofs.tree.push_frame.Goals.{then-at-frames, else-at-frames}
 
@@ -32,3 +32,7 @@ pub returns-clause-places : goal.returns-clause-places
 returns-clause-places c =
     places-more c.args.entries.now.items _ _ c.args.spine.now.items _ c.args.frames.now c.args.at c.args.value c.requires.places c.in_ok-push-2.ensures.items
     (c.in_ok-push.ensures.items ∙ ap (λ n. c.args.spine.now.items ++ n ∷ []) (c.len.ensures ∙ c.args.entries.now.ok.0)) (returns-clause-nodes c)
+
+pub returns-clause-deep : goal.returns-clause-deep
+returns-clause-deep c =
+    deep-pushed c.args.entries.now.items _ _ c.args.frames.now c.args.at c.args.value c.requires.within refl c.in_ok-push-2.ensures.items (returns-clause-nodes c)

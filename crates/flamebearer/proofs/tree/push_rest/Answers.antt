@@ -13,5 +13,6 @@ loop-at-preserved c =
       nodes = fresh-more (nodes_of c.args.entries.now.items) (nodes_of c.loop-at.entries.items) _ c.args.frames.now c.args.shared c.loop-at.at c.args.value far held.nodes c.in_ok-push_frame.ensures.nodes;
       path = take-path (c.loop-at.at + 1) _ c.args.frames.now c.in_ok-push_frame.ensures.path;
       whole = λ _. c.in_ok-push_frame.ensures.path;
+      deep = λ was. c.in_ok-push_frame.ensures.deep (held.deep was);
       places = c.in_ok-push_frame.ensures.places;
     }

@@ -3,7 +3,7 @@ use Rattle.std.proofs.lemmas.List.{length-take-le}
 use Rattle.flamebearer.specs.Entries.{nodes_of}
 use Rattle.flamebearer.specs.Pushes.{fresh, fronts, grown}
 use Rattle.flamebearer.proofs.PrefixLemmas.{cut_short}
-use Rattle.flamebearer.proofs.NodeLemmas.{grown-front, places-front, places-grown}
+use Rattle.flamebearer.proofs.NodeLemmas.{deep-grown, grown-front, places-front, places-grown}
 use Rattle.flamebearer.proofs.tree.push_stack.Goals as goal
 
 pub push_rest-requires-clause-within : goal.push_rest-requires-clause-within
@@ -35,3 +35,7 @@ returns-clause-nodes c =
       part = part;
       nodes = c.in_ok-push_rest.ensures.nodes ∙ ap (λ ns. ns ++ map (fresh frames value) (fronts frames shared (length frames - shared))) grew;
     }
+
+pub returns-clause-deep : goal.returns-clause-deep
+returns-clause-deep c = λ was.
+    c.in_ok-push_rest.ensures.deep (deep-grown c.args.entries.now.items _ _ _ c.args.value c.grow.ensures.depths c.grow.ensures.nodes was)

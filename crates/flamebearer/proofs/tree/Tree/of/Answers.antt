@@ -1,7 +1,8 @@
 use Rattle.std.proofs.Common.{length, subst, ◌∙◌}
-use Rattle.flamebearer.specs.Entries.{ArePlaces, nodes_of}
+use Rattle.flamebearer.specs.Entries.{ArePlaces, depths_of, nodes_of}
+use Rattle.flamebearer.specs.Ends.{AreEnds}
 use Rattle.flamebearer.specs.Pushes.{IsPushed}
-use Rattle.flamebearer.proofs.AlongLemmas.{along-none, along-push, ready}
+use Rattle.flamebearer.proofs.AlongLemmas.{along-fits, along-none, along-push, ready}
 use Rattle.flamebearer.proofs.tree.Tree.of.Goals as goal
 
 pub loop-stack-init : goal.loop-stack-init
@@ -29,4 +30,12 @@ loop-stack-preserved c =
     (along-push c.args.values.now _ _ before entries new _ after c.in-Some.stack.now c.in-Some.value.now c.loop-stack.invariant c.in-Some.ensures.steps c.frames.ensures.limits.some
     (subst (λ stack. IsPushed before stack c.in-Some.value.now (nodes_of entries) (nodes_of new)) is done.nodes)
     (done.path ∙ is)
-    (subst (λ stack. ArePlaces new after stack (length stack)) is done.places))
+    (subst (λ stack. ArePlaces new after stack (length stack)) is done.places)
+    done.deep)
+
+pub invariant_of-result : goal.invariant_of-result
+invariant_of-result c = (
+  c.loop-stack.invariant.deep,
+  subst (λ entries. AreEnds 0 (depths_of entries) c.in_ok-ends.ends.items) c.deref.ensures.value c.in_ok-ends.ensures,
+  along-fits _ _ _ _ _ c.loop-stack.invariant,
+)

@@ -4,3 +4,6 @@
 mod tree;
 
 pub use tree::Tree;
+
+#[cfg(test)]
+mod tests;

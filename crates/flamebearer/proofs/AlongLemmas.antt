@@ -1,5 +1,5 @@
 -- Where the making of a tree stands between two stacks.
-use Rattle.std.proofs.Common.{◌≡◌, ℕ, ◌+◌, ◌-◌, ◌^◌, ◌<◌, ◌⊎◌, inl, inr, List, [], ◌∷◌, ◌++◌, length, map, take, get_or, arith, refl, sym, ap, ◌∙◌, subst, append_assoc, ⊎_elim}
+use Rattle.std.proofs.Common.{◌≡◌, ℕ, zero, suc, ◌+◌, ◌-◌, ◌^◌, ◌<◌, ◌⊎◌, inl, inr, List, [], ◌∷◌, ◌++◌, length, map, take, get_or, arith, refl, sym, ap, ◌∙◌, subst, append_assoc, ⊎_elim}
 use Rattle.std.specs.Prelude.{sum_by}
 use Rattle.std.specs.List.{All, AllByRecursion, IsDistinct, list_any}
 use Rattle.std.specs.List.Sorted.{IsStrictlySortedBy}
@@ -16,10 +16,10 @@ use Rattle.flamebearer.specs.declared.tree.Entry.{Entry}
 use Rattle.flamebearer.specs.Trees.{Node, firsts, node_of, tree_of}
 use Rattle.flamebearer.specs.Entries.{AreDeep, ArePlaces, nodes_of, path_after, stacks_of}
 use Rattle.flamebearer.specs.Pushes.{IsPushed, fresh, fronts, grown}
-use Rattle.flamebearer.proofs.PrefixLemmas.{same_stack}
+use Rattle.flamebearer.proofs.PrefixLemmas.{cut_short, one_more, same_stack}
 use Rattle.flamebearer.proofs.FirstLemmas.{found_of}
 use Rattle.flamebearer.proofs.WalkLemmas.{IsWalked, IsNext, total-le, tree-push, walked-none, walked-push}
-use Rattle.flamebearer.proofs.NodeLemmas.{length-stacks, take-front}
+use Rattle.flamebearer.proofs.NodeLemmas.{own-last, own-more, length-stacks, take-front}
 
 pub record IsAlong (values rest : List Sample) (before : List (List ℕ)) (entries : List Entry) (spine : List ℕ) : Type 0 where
   pub done : List Sample
@@ -29,6 +29,7 @@ pub record IsAlong (values rest : List Sample) (before : List (List ℕ)) (entri
   pub places : ArePlaces entries spine before (length before)
   pub walked : IsWalked done before
   pub deep : AreDeep entries
+  pub sum : sum_by (λ node. node.own) (nodes_of entries) ≡ total_of done
   pub sorted : IsStrictlySortedBy stack_cmp (keys_of rest)
   pub above : (before ≡ []) ⊎ AllByRecursion (λ key. stack_cmp before key ≡ Less) (keys_of rest)
   pub bounded : total_of values < 2 ^ 63
@@ -43,6 +44,7 @@ along-none values sums = record {
   places = record { many = refl; within = λ n near. absurd (omega arith); are = λ n near. absurd (omega arith) };
   walked = walked-none;
   deep = refl;
+  sum = refl;
   sorted = sums.ascending;
   above = inl refl;
   bounded = sums.bounded;
@@ -99,6 +101,49 @@ ready values all rest before entries spine stack value along is some =
     each done few [] = tt
     each done few (s ∷ found) = ((let le = total-le s done in omega arith), each done few found)
 
+-- ---- all own values together
+
+own-grown : (count : ℕ) (stack : List (List ℕ)) (value : ℕ) (nodes : List Node) → sum_by (λ node. node.own) (map (grown count stack value) nodes) ≡ sum_by (λ node. node.own) nodes
+unfolding grown
+own-grown count stack value [] = refl
+own-grown count stack value (node ∷ nodes) =
+    sum_by-cons (λ (n : Node). n.own) (grown count stack value node) (map (grown count stack value) nodes)
+    ∙ ap (λ n. node.own + n) (own-grown count stack value nodes) ∙ sym (sum_by-cons (λ (n : Node). n.own) node nodes)
+
+own-fresh : (stack : List (List ℕ)) (value from count : ℕ) → from + (count + 1) ≡ length stack
+    → sum_by (λ node. node.own) (map (fresh stack value) (fronts stack from (count + 1))) ≡ value
+unfolding fresh
+own-fresh stack value from count long = ap (λ n. sum_by (λ (node : Node). node.own) (map (fresh stack value) (fronts stack from n))) (one_more count) ∙ by stack value from count long
+  where
+    by : (stack : List (List ℕ)) (value from count : ℕ) → from + (count + 1) ≡ length stack → sum_by (λ node. node.own) (map (fresh stack value) (fronts stack from (suc count))) ≡ value
+    by stack value from zero long =
+        let split = sum_by-cons (λ (n : Node). n.own) (fresh stack value (take (from + 1) stack)) [] in
+        let last = own-last stack from value (omega arith) in omega arith
+    by stack value from (suc count) long =
+        let split = sum_by-cons (λ (n : Node). n.own) (fresh stack value (take (from + 1) stack)) (map (fresh stack value) (fronts stack (from + 1) (suc count))) in
+        let none = own-more stack from value (omega arith) (λ same. absurd (omega arith)) in
+        let later = by stack value (from + 1) count (omega arith) in omega arith
+
+sum-push : (c : ℕ) (stack : List (List ℕ)) (value : ℕ) (old new : List Node)
+    → new ≡ map (grown c stack value) old ++ map (fresh stack value) (fronts stack c (length stack - c)) → c < length stack
+    → sum_by (λ node. node.own) new ≡ sum_by (λ node. node.own) old + value
+sum-push c stack value old new is short =
+    ap (sum_by (λ (n : Node). n.own)) is
+    ∙ sum_by-append (λ (n : Node). n.own) (map (grown c stack value) old) (map (fresh stack value) (fronts stack c (length stack - c)))
+    ∙ (λ i. own-grown c stack value old i + rest i)
+  where
+    back : (c n : ℕ) → c < n → n - c ≡ n - c - 1 + 1
+    back c n short = omega arith
+
+    rest : sum_by (λ (n : Node). n.own) (map (fresh stack value) (fronts stack c (length stack - c))) ≡ value
+    rest = ap (λ n. sum_by (λ (n : Node). n.own) (map (fresh stack value) (fronts stack c n))) (back c (length stack) short)
+        ∙ own-fresh stack value c (length stack - c - 1) (omega arith)
+
+total-last : (done : List Sample) (stack : List (List ℕ)) (value : ℕ) → total_of (done ++ (stack, value) ∷ []) ≡ total_of done + value
+total-last done stack value =
+    let whole = total-whole done ((stack, value) ∷ []) in
+    let one = sum_by-cons (λ (v : ℕ). v) value [] in omega arith
+
 pub along-push : (values all rest : List Sample) (before : List (List ℕ)) (entries new : List Entry) (spine after : List ℕ) (stack : List (List ℕ)) (value : ℕ)
     → IsAlong values all before entries spine → all ≡ (stack, value) ∷ rest → 0 < length stack
     → IsPushed before stack value (nodes_of entries) (nodes_of new) → path_after [] new ≡ stack → ArePlaces new after stack (length stack)
@@ -129,6 +174,9 @@ along-push values all rest before entries new spine after stack value along is s
       places = places;
       walked = walked-push along.done before stack value pushed.shared along.walked next;
       deep = deep along.deep;
+      sum = sum-push pushed.shared stack value (nodes_of entries) (nodes_of new) pushed.nodes
+          (let part = pushed.part in cut_short pushed.shared before stack part set.greater)
+          ∙ ap (λ n. n + value) along.sum ∙ sym (total-last along.done stack value);
       sorted = sorted.1;
       above = inr sorted.0;
       bounded = along.bounded;
@@ -147,3 +195,11 @@ along-fits values rest before entries spine along =
     each : (done : List Sample) → total_of done < 2 ^ 63 → (found : List (List (List ℕ))) → AllByRecursion (λ node. node.total < 2 ^ 63) (map (node_of done) found)
     each done few [] = tt
     each done few (s ∷ found) = ((let le = total-le s done in omega arith), each done few found)
+
+pub along-sum : (values rest : List Sample) (before : List (List ℕ)) (entries : List Entry) (spine : List ℕ) → IsAlong values rest before entries spine
+    → sum_by (λ node. node.own) (nodes_of entries) < 2 ^ 63
+along-sum values rest before entries spine along =
+    let whole = total-whole along.done rest in
+    let all : total_of values ≡ total_of along.done + total_of rest = ap total_of (sym along.whole) ∙ whole in
+    let bounded = along.bounded in
+    let sum = along.sum in omega arith

@@ -1,6 +1,5 @@
 // The tree of some stacks.
-ghost use Rattle.std.specs.Prelude.{◌≡◌, ◌+◌, ◌-◌, ◌<◌, ◌++◌, [], ◌∷◌, length, map, take, IfOk, List, ℕ, OnOk};
-ghost use Rattle.std.specs.Prelude.{◌^◌};
+ghost use Rattle.std.specs.Prelude.{◌≡◌, ◌+◌, ◌-◌, ◌^◌, ◌<◌, ◌++◌, [], ◌∷◌, length, map, take, IfOk, OnOk};
 ghost use Rattle.std.specs.List.{AllByRecursion, IsDistinct};
 ghost use Rattle.std.specs.declared.cmp.Ordering.TheVariants.{Less};
 ghost use Rattle.profile_model.specs.Stacks.{stack_cmp};
@@ -22,17 +21,16 @@ pub struct Tree {
 }
 
 impl Model for Tree {
-    ghost use Rattle.std.specs.Prelude.{List, ◌<◌, ◌^◌};
-    ghost use Rattle.std.specs.List.{All};
+    ghost use Rattle.std.specs.Prelude.{List};
     ghost use Rattle.flamebearer.specs.Trees.{Node};
-    ghost use Rattle.flamebearer.specs.Entries.{AreDeep, depths_of, nodes_of};
-    ghost use Rattle.flamebearer.specs.Ends.{AreEnds};
+    ghost use Rattle.flamebearer.specs.Entries.{nodes_of};
+    ghost use Rattle.flamebearer.specs.Ends.{AreKept};
 
     ghost Value = { List Node };
 
     ghost view = { λ t. nodes_of t.entries.items };
 
-    ghost invariant = { λ t. AreDeep t.entries.items × AreEnds 0 (depths_of t.entries.items) t.ends.items × All (λ node. node.total < 2 ^ 63) (nodes_of t.entries.items) };
+    ghost invariant = { λ t. AreKept t.entries.items t.ends.items };
 }
 
 impl Tree {

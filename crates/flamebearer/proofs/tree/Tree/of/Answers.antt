@@ -2,7 +2,7 @@ use Rattle.std.proofs.Common.{length, subst, ◌∙◌}
 use Rattle.flamebearer.specs.Entries.{ArePlaces, depths_of, nodes_of}
 use Rattle.flamebearer.specs.Ends.{AreEnds}
 use Rattle.flamebearer.specs.Pushes.{IsPushed}
-use Rattle.flamebearer.proofs.AlongLemmas.{along-fits, along-none, along-push, ready}
+use Rattle.flamebearer.proofs.AlongLemmas.{along-fits, along-none, along-push, along-sum, ready}
 use Rattle.flamebearer.proofs.tree.Tree.of.Goals as goal
 
 pub loop-stack-init : goal.loop-stack-init
@@ -34,8 +34,9 @@ loop-stack-preserved c =
     done.deep)
 
 pub invariant_of-result : goal.invariant_of-result
-invariant_of-result c = (
-  c.loop-stack.invariant.deep,
-  subst (λ entries. AreEnds 0 (depths_of entries) c.in_ok-ends.ends.items) c.deref.ensures.value c.in_ok-ends.ensures,
-  along-fits _ _ _ _ _ c.loop-stack.invariant,
-)
+invariant_of-result c = record {
+  deep = c.loop-stack.invariant.deep;
+  right = subst (λ entries. AreEnds 0 (depths_of entries) c.in_ok-ends.ends.items) c.deref.ensures.value c.in_ok-ends.ensures;
+  totals = along-fits _ _ _ _ _ c.loop-stack.invariant;
+  owns = along-sum _ _ _ _ _ c.loop-stack.invariant;
+}

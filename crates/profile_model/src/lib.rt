@@ -6,6 +6,7 @@ mod kind;
 mod labels;
 mod laws;
 mod name;
+mod part_ask;
 mod profile;
 mod push;
 mod stack;
@@ -22,6 +23,7 @@ pub use labels::{
 };
 pub use laws::sums_are_exact;
 pub use name::{Name, NameFault};
+pub use part_ask::PartAsk;
 pub use profile::{MAX_PROFILES, Profile, Profiles};
 pub use push::Push;
 pub use stack::{MAX_FRAME_BYTES, MAX_FRAMES, Stack, StackFault};

@@ -55,6 +55,14 @@ impl Profiles {
         Profiles { items }
     }
 
+    /// The profiles themselves. It takes no memory.
+    pub fn into_vec(self) -> Vec<Profile>
+        ensures value { result.items ≡ self }
+        ensures few { length self ≤ 4096 }
+    {
+        self.items
+    }
+
     pub fn as_slice(&self) -> &[Profile]
         ensures value { result.now ≡ self.now }
         ensures few { length self.now ≤ 4096 }

@@ -1,7 +1,6 @@
 -- What reading the bytes of an object answers.
 use Rattle.std.specs.Prelude.{◌≡◌, ◌≢◌, ◌⊎◌, ℕ, List, [], ◌∷◌, ◌++◌, length, Some, Result, Ok, Err}
 use Rattle.segment_file.specs.declared.fault.ObjectFault.{ObjectFault}
-use Rattle.segment_file.specs.declared.fault.ObjectFault.TheVariants.{Broken, Memory}
 use Rattle.segment_file.specs.declared.fault.ObjectRule.{ObjectRule}
 use Rattle.segment_file.specs.declared.fault.ObjectRule.TheVariants.{Form}
 use Rattle.segment_file.specs.Fields.{AreSound, Field, spelled}
@@ -56,8 +55,7 @@ pub record Spells (bytes : List ℕ) (object : ObjectView) : Type 0 where
   pub whole : IsObject object.lo object.pushes
   pub spelled : bytes ≡ spelling_of object.lo object.pushes
 
--- the object that the bytes spell, else the first rule that they break, and its place; memory may run out at any time
+-- the object that the bytes spell, else the first rule that they break, and its place
 abbrev pub IsDecoded : List ℕ → Result ObjectView ObjectFault → Type 0
 IsDecoded bytes (Ok object) = Spells bytes object
-IsDecoded bytes (Err (Broken rule at)) = IsBroken bytes rule at
-IsDecoded bytes (Err Memory) = Unit {0}
+IsDecoded bytes (Err fault) = IsBroken bytes fault.rule fault.at

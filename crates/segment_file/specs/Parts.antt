@@ -3,22 +3,12 @@ use Rattle.std.specs.Prelude.{◌&&◌, ℕ, Bool, List, map, filter, nat_eq, na
 use Rattle.std.specs.List.{enumerate_from, flat_map}
 use Rattle.std.specs.Cmp.Lexicographic.{pointwise}
 use Rattle.profile_model.specs.declared.profile.Profile.{Profile}
+use Rattle.profile_model.specs.declared.part_ask.PartAsk.{PartAsk}
 use Rattle.profile_model.specs.declared.push.Push.{Push}
-
--- whose profiles are asked for, and of which times, both included
-pub record PartAsk : Type 0 where
-  pub tenant : List ℕ
-  pub from_ms : ℕ
-  pub until_ms : ℕ
-
--- a profile, the number of its push and its place there
-pub record Row : Type 0 where
-  pub push : ℕ
-  pub place : ℕ
-  pub profile : Profile
+use Rattle.segment_file.specs.declared.part.Row.{Row}
 
 -- what was found in pushes number `from` to `until` - 1
-pub record Part : Type 0 where
+pub record PartView : Type 0 where
   pub from : ℕ
   pub until : ℕ
   pub rows : List Row
@@ -40,7 +30,7 @@ abbrev pub is_within : PartAsk → Row → Bool
 is_within ask row = nat_le ask.from_ms row.profile.time_ms && nat_le row.profile.time_ms ask.until_ms
 
 -- what the ask finds in pushes number `from` to `until` - 1 of an object's
-abbrev pub part_of : ℕ → List Push → ℕ → ℕ → PartAsk → Part
+abbrev pub part_of : ℕ → List Push → ℕ → ℕ → PartAsk → PartView
 part_of lo pushes from until ask = record {
   from = from;
   until = until;

@@ -1,4 +1,10 @@
 // Why bytes are no object.
+ghost use Rattle.std.specs.Prelude.{◌≡◌, [], ◌∷◌};
+ghost use Rattle.faults.specs.Places.{numbers_of};
+ghost use Rattle.faults.specs.declared.refused.Refused.TheVariants.{Fault};
+ghost use Rattle.segment_file.specs.Faults.{code_of};
+
+use faults::{Place, Refused};
 use std::error::Error;
 use std::fmt;
 
@@ -11,25 +17,48 @@ pub enum ObjectRule {
     Content,
 }
 
-/// Why bytes are no object.
+/// The first rule that bytes break, and the place of the field that breaks it; the length of the bytes where they end
+/// inside a field.
 #[derive(Clone, Copy, Debug, PartialEq, Eq)]
-pub enum ObjectFault {
-    /// The first rule that is broken, and the place of the field that breaks it; the length of the bytes where they
-    /// end inside a field.
-    Broken(ObjectRule, usize),
-    Memory,
+pub struct ObjectFault {
+    pub rule: ObjectRule,
+    pub at: usize,
+}
+
+impl ObjectFault {
+    /// The code that stands for the fault: `O1` or `O9`.
+    pub fn code(&self) -> &'static str
+        ensures { result.now ≡ code_of self.now }
+    {
+        match self.rule {
+            ObjectRule::Form => "O1",
+            ObjectRule::Content => "O9",
+        }
+    }
+
+    pub fn place(&self) -> Place
+        ensures { numbers_of result ≡ self.now.at ∷ [] }
+    {
+        Place::At(self.at as u64)
+    }
 }
 
 impl fmt::Display for ObjectFault {
     fn fmt<W: fmt::Write>(&self, f: &mut fmt::Formatter<W>) -> fmt::Result {
-        match self {
-            ObjectFault::Broken(ObjectRule::Form, at) => write!(f, "no object: see byte {at}"),
-            ObjectFault::Broken(ObjectRule::Content, at) => {
-                write!(f, "an object with a wrong field at byte {at}")
-            }
-            ObjectFault::Memory => write!(f, "out of memory"),
+        let at = self.at;
+        match self.rule {
+            ObjectRule::Form => write!(f, "no object: see byte {at}"),
+            ObjectRule::Content => write!(f, "an object with a wrong field at byte {at}"),
         }
     }
 }
 
 impl Error for ObjectFault {}
+
+impl From<ObjectFault> for Refused<ObjectFault> {
+    ghost from_gives = { λ fault refused. refused ≡ Fault fault };
+
+    fn from(fault: ObjectFault) -> Refused<ObjectFault> {
+        Refused::Fault(fault)
+    }
+}

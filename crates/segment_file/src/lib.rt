@@ -7,9 +7,11 @@
 mod fault;
 mod laws;
 mod object;
+mod part;
 #[cfg(test)]
 mod tests;
 
 pub use fault::{ObjectFault, ObjectRule};
 pub use laws::{bytes_have_one_fault, objects_have_one_spelling};
 pub use object::Object;
+pub use part::{Part, Row};

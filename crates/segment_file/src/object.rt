@@ -1,4 +1,7 @@
 // Consecutive pushes of a history.
+ghost use Rattle.segment_file.specs.Fields.{Fit};
+ghost use Rattle.segment_file.specs.Files.{file_fields};
+ghost use Rattle.segment_file.specs.Objects.{file_of};
 ghost use Rattle.std.specs.Prelude.{◌≡◌, ◌≢◌, ℕ, ◌+◌, ◌^◌, ◌<◌, [], length};
 
 use profile_model::Push;
@@ -13,20 +16,24 @@ pub struct Object {
 
 impl Model for Object {
     ghost use Rattle.std.specs.Prelude.{◌≢◌, ◌+◌, ◌^◌, ◌<◌, [], length};
-    ghost use Rattle.segment_file.specs.Objects.{ObjectView};
+    ghost use Rattle.segment_file.specs.Fields.{Fit};
+    ghost use Rattle.segment_file.specs.Files.{file_fields};
+    ghost use Rattle.segment_file.specs.Objects.{ObjectView, file_of};
 
     ghost Value = { ObjectView };
 
     ghost view = { λ o. record { lo = o.lo; pushes = o.pushes.items } };
 
-    ghost invariant = { λ o. (o.pushes.items ≢ []) × (o.lo + length o.pushes.items < 2 ^ 64) };
+    ghost invariant = { λ o. (o.pushes.items ≢ []) × (o.lo + length o.pushes.items < 2 ^ 64) × Fit (file_fields (file_of o.lo o.pushes.items)) };
 }
 
 impl Object {
-    /// These pushes, the first of them number `lo`. It takes no memory.
+    /// These pushes, the first of them number `lo`. Each length among them has room in four bytes, as in pushes that are
+    /// within their limit of weight. It takes no memory.
     pub fn from_pushes(lo: u64, pushes: Vec<Push>) -> Object
         requires some { pushes.items ≢ [] }
         requires within { lo + length pushes.items < 2 ^ 64 }
+        requires fit { Fit (file_fields (file_of lo pushes.items)) }
         ensures lo { result.lo ≡ lo }
         ensures pushes { result.pushes ≡ pushes.items }
     {

@@ -22,10 +22,15 @@ fn shown(alloc: Global, fault: ObjectFault, text: &str) -> Result<bool, Fail> {
 fn an_object_tells_its_numbers_and_a_fault_its_place(rt: HostRuntime) -> Result<(), Fail> {
     let alloc = rt.alloc();
     assert_eq!(rt; numbers(alloc)?, (7, 8, 1));
-    let form = ObjectFault::Broken(ObjectRule::Form, 30);
+    let form = ObjectFault {
+        rule: ObjectRule::Form,
+        at: 30,
+    };
     assert!(rt; shown(alloc, form, "no object: see byte 30")?);
-    let content = ObjectFault::Broken(ObjectRule::Content, 20);
+    let content = ObjectFault {
+        rule: ObjectRule::Content,
+        at: 20,
+    };
     assert!(rt; shown(alloc, content, "an object with a wrong field at byte 20")?);
-    assert!(rt; shown(alloc, ObjectFault::Memory, "out of memory")?);
     Ok(())
 }

@@ -16,6 +16,7 @@ pub mod LabelSets
 pub mod LabelPlaces
 pub mod LabelOrder
 pub mod ReadLabels
+pub mod LabelFaults
 pub mod Pushes
 pub mod History
 pub mod Weights

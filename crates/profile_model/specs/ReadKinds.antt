@@ -3,7 +3,7 @@ use Rattle.std.specs.Prelude.{◌≡◌, ◌≢◌, ℕ, List, [], ◌∷◌, le
 use Rattle.profile_model.specs.Kinds.{parts_of}
 use Rattle.profile_model.specs.declared.kind.ProfileType.{ProfileType}
 use Rattle.profile_model.specs.declared.kind.TypeFault.{TypeFault}
-use Rattle.profile_model.specs.declared.kind.TypeFault.TheVariants.{NotFiveParts, Memory}
+use Rattle.profile_model.specs.declared.kind.TypeFault.TheVariants.{NotFiveParts}
 
 -- the five parts, in order
 abbrev pub parts_in : ProfileType → List (List ℕ)
@@ -13,4 +13,3 @@ parts_in kind = kind.name ∷ kind.sample_type ∷ kind.sample_unit ∷ kind.per
 abbrev pub IsReadType : List ℕ → Result ProfileType TypeFault → Type 0
 IsReadType text (Ok kind) = parts_of text ≡ parts_in kind
 IsReadType text (Err NotFiveParts) = length (parts_of text) ≢ 5
-IsReadType text (Err Memory) = Unit {0}

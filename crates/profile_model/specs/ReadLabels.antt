@@ -2,7 +2,7 @@
 use Rattle.std.specs.Prelude.{ℕ, ◌<◌, ◌≤◌, List, length, take, slice_get, Option, Some, None, Result, Ok, Err, IsSomeAnd, IsTrue, IsFalse}
 use Rattle.profile_model.specs.LabelSets.{Label, AreLabelsOf, AreSound, has_label, is_label_name, with_value}
 use Rattle.profile_model.specs.declared.labels.LabelFault.{LabelFault}
-use Rattle.profile_model.specs.declared.labels.LabelFault.TheVariants.{BadName, BadValue, Repeated, TooMany, Memory}
+use Rattle.profile_model.specs.declared.labels.LabelFault.TheVariants.{BadName, BadValue, Repeated, TooMany}
 
 -- pair `at` is the first that breaks a rule, and this one
 pub record IsFirstFault (pairs : List Label) (at : ℕ) (Broken : Label → Type 0) : Type 0 where
@@ -18,12 +18,10 @@ IsLabelFault pairs (BadValue at) =
 IsLabelFault pairs (Repeated at) =
     IsFirstFault pairs at (λ pair. IsTrue (is_label_name pair.0) × (length pair.1 ≤ 2048) × IsTrue (has_label (take at pairs) pair.0))
 IsLabelFault pairs TooMany = AreSound pairs × (30 < length (with_value pairs))
-IsLabelFault pairs Memory = ⊥
 
--- The labels of the pairs that have a value, or the fault. Want of memory comes only of pairs without fault.
+-- the labels of the pairs that have a value, or the fault
 abbrev pub IsReadLabels : List Label → Result (List Label) LabelFault → Type 0
 IsReadLabels pairs (Ok labels) = AreSound pairs × (length (with_value pairs) ≤ 30) × AreLabelsOf (with_value pairs) labels
-IsReadLabels pairs (Err Memory) = AreSound pairs × (length (with_value pairs) ≤ 30)
 IsReadLabels pairs (Err fault) = IsLabelFault pairs fault
 
 -- no pair breaks a rule, or this is the first that does, and its rule

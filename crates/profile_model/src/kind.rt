@@ -1,8 +1,11 @@
 // What the values of a profile count.
 ghost use Rattle.std.specs.Prelude.{◌≡◌, ◌≢◌, [], ◌∷◌, length, MatchOption, IfOk, IsErrOf};
 ghost use Rattle.profile_model.specs.Kinds.{IsPart, parts_of};
+ghost use Rattle.faults.specs.Answers.{IfAnswered};
+ghost use Rattle.faults.specs.declared.refused.Refused.TheVariants.{Fault};
 
 use crate::Name;
+use faults::Refused;
 use std::alloc::{AllocError, Global};
 use std::error::Error;
 use std::fmt;
@@ -23,14 +26,12 @@ pub struct ProfileType {
 #[derive(Clone, Copy, Debug, PartialEq, Eq)]
 pub enum TypeFault {
     NotFiveParts,
-    Memory,
 }
 
 impl fmt::Display for TypeFault {
     fn fmt<W: fmt::Write>(&self, f: &mut fmt::Formatter<W>) -> fmt::Result {
         match self {
             TypeFault::NotFiveParts => write!(f, "a profile's type has five parts"),
-            TypeFault::Memory => write!(f, "out of memory"),
         }
     }
 }
@@ -41,13 +42,13 @@ impl ProfileType {
     ghost use Rattle.profile_model.specs.ReadKinds.{IsReadType};
 
     /// The type of this text, whose parts stand between four `:`.
-    pub fn read(alloc: Global, text: &str) -> Result<ProfileType, TypeFault>
-        ensures read { IsReadType text.now result }
-        ensures refused { length (parts_of text.now) ≢ 5 → IsErrOf result TypeFault.NotFiveParts }
+    pub fn read(alloc: Global, text: &str) -> Result<ProfileType, Refused<TypeFault>>
+        ensures read { IfAnswered (IsReadType text.now) result }
+        ensures refused { length (parts_of text.now) ≢ 5 → IsErrOf result (Fault TypeFault.NotFiveParts) }
     {
         match five_parts(text) {
-            Some(parts) => parts.kept(alloc).map_err(|_| TypeFault::Memory),
-            None => Err(TypeFault::NotFiveParts),
+            Some(parts) => Ok(parts.kept(alloc)?),
+            None => Err(Refused::Fault(TypeFault::NotFiveParts)),
         }
     }
 }

@@ -1,14 +1,19 @@
 // What names a profile's series.
-ghost use Rattle.std.specs.Prelude.{◌≡◌, ◌≤◌, [], ◌∷◌, codes, find, length, nat_eq, IfOk, OnErr, OnOk, option_map};
+ghost use Rattle.std.specs.Prelude.{◌≡◌, ◌≤◌, [], ◌∷◌, codes, find, length, nat_eq, IfOk, IsErrOf, OnErr, OnOk, option_map};
 ghost use Rattle.std.specs.List.{list_all};
 ghost use Rattle.std.specs.Cmp;
 ghost use Rattle.std.specs.Cmp.Lexicographic.{pointwise};
-ghost use Rattle.profile_model.specs.LabelSets.{AreLabels, AreProfileLabels, IsLabel, IsLabelValue, begins_with_digit, has_label, is_label_byte, is_label_name, is_name_length, label_of, with_label, with_value, without_label};
+ghost use Rattle.profile_model.specs.LabelSets.{AreLabels, AreProfileLabels, AreSound, IsLabel, IsLabelValue, begins_with_digit, has_label, is_label_byte, is_label_name, is_name_length, label_of, with_label, with_value, without_label};
 ghost use Rattle.profile_model.specs.LabelPlaces.{IsPlace, put_all};
 ghost use Rattle.profile_model.specs.LabelOrder.{labels_cmp, labels_eq, labels_equiv, labels_po, labels_ties, labels_total};
 ghost use Rattle.profile_model.specs.ReadLabels.{IsPairFault, IsReadLabels};
+ghost use Rattle.profile_model.specs.LabelFaults.{code_of, place_of};
+ghost use Rattle.faults.specs.Answers.{IfAnswered};
+ghost use Rattle.faults.specs.Places.{numbers_of};
+ghost use Rattle.faults.specs.declared.refused.Refused.TheVariants.{Memory};
 
 use crate::Name;
+use faults::{Place, Refused};
 use std::alloc::{AllocError, Global};
 use std::cmp::Ordering;
 use std::error::Error;
@@ -55,7 +60,33 @@ pub enum LabelFault {
     Repeated(usize),
     /// More than 30 pairs have a value.
     TooMany,
-    Memory,
+}
+
+impl LabelFault {
+    /// The code that stands for the fault: `L1` to `L4`.
+    pub fn code(&self) -> &'static str
+        ensures { result.now ≡ code_of self.now }
+    {
+        match self {
+            LabelFault::BadName(_) => "L1",
+            LabelFault::BadValue(_) => "L2",
+            LabelFault::Repeated(_) => "L3",
+            LabelFault::TooMany => "L4",
+        }
+    }
+
+    /// The number of the pair, none where there are too many.
+    pub fn place(&self) -> Place
+        ensures place { numbers_of result ≡ place_of self.now }
+        ensures short { length (numbers_of result) ≤ 1 }
+    {
+        match self {
+            LabelFault::BadName(at) | LabelFault::BadValue(at) | LabelFault::Repeated(at) => {
+                Place::At(*at as u64)
+            }
+            LabelFault::TooMany => Place::Whole,
+        }
+    }
 }
 
 impl fmt::Display for LabelFault {
@@ -68,7 +99,6 @@ impl fmt::Display for LabelFault {
             ),
             LabelFault::Repeated(at) => write!(f, "label {at} has the name of an earlier one"),
             LabelFault::TooMany => write!(f, "more than {MAX_LABELS} labels"),
-            LabelFault::Memory => write!(f, "out of memory"),
         }
     }
 }
@@ -89,21 +119,22 @@ impl LabelSet {
 
     /// The labels that these pairs name, without those whose value is empty. Pairs that break a rule are
     /// refused before memory is asked for.
-    pub fn from_pairs(alloc: Global, pairs: &[(Name, Name)]) -> Result<LabelSet, LabelFault>
-        ensures read { IsReadLabels pairs.now result }
+    pub fn from_pairs(
+        alloc: Global,
+        pairs: &[(Name, Name)],
+    ) -> Result<LabelSet, Refused<LabelFault>>
+        ensures read { IfAnswered (IsReadLabels pairs.now) result }
+        ensures memory { IsErrOf result Memory → AreSound pairs.now × (length (with_value pairs.now) ≤ 30) }
         ensures few { IfOk result (λ labels. length labels ≤ 30) }
         ensures profile { IfOk result AreProfileLabels }
     {
         if let Some(fault) = first_fault(pairs) {
-            return Err(fault);
+            return Err(Refused::Fault(fault));
         }
         if count_with_value(pairs) > MAX_LABELS {
-            return Err(LabelFault::TooMany);
+            return Err(Refused::Fault(LabelFault::TooMany));
         }
-        match gathered(alloc, pairs) {
-            Ok(labels) => Ok(labels),
-            Err(_) => Err(LabelFault::Memory),
-        }
+        Ok(gathered(alloc, pairs)?)
     }
 
     pub fn pairs(&self) -> &[(Name, Name)]

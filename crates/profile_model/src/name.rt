@@ -8,7 +8,10 @@ ghost use Rattle.profile_model.specs.Stacks.{name_cmp};
 ghost use Rattle.profile_model.specs.Names.{IsReadName};
 ghost use Rattle.profile_model.specs.CleanedTexts.{clean_byte, cleaned};
 ghost use Rattle.profile_model.specs.Kinds.{IsPart};
+ghost use Rattle.faults.specs.Answers.{IfAnswered};
+ghost use Rattle.faults.specs.declared.refused.Refused.TheVariants.{Memory};
 
+use faults::Refused;
 use std::alloc::{AllocError, Global};
 use std::cmp::Ordering;
 use std::error::Error;
@@ -37,14 +40,12 @@ impl Model for Name {
 pub enum NameFault {
     /// The bytes aren't UTF-8; the place is the length of their longest valid prefix.
     NotUtf8(usize),
-    Memory,
 }
 
 impl fmt::Display for NameFault {
     fn fmt<W: fmt::Write>(&self, f: &mut fmt::Formatter<W>) -> fmt::Result {
         match self {
             NameFault::NotUtf8(at) => write!(f, "no UTF-8 at byte {at}"),
-            NameFault::Memory => write!(f, "out of memory"),
         }
     }
 }
@@ -53,13 +54,13 @@ impl Error for NameFault {}
 
 impl Name {
     /// The text of these bytes.
-    pub fn read(alloc: Global, bytes: &[u8]) -> Result<Name, NameFault>
-        ensures read { IsReadName bytes.now result }
-        ensures memory { IsErrOf result NameFault.Memory → IsUtf8 bytes.now }
+    pub fn read(alloc: Global, bytes: &[u8]) -> Result<Name, Refused<NameFault>>
+        ensures read { IfAnswered (IsReadName bytes.now) result }
+        ensures memory { IsErrOf result Memory → IsUtf8 bytes.now }
     {
         match str::from_utf8(bytes) {
-            Ok(text) => Name::from_text(alloc, text).map_err(|_| NameFault::Memory),
-            Err(fault) => Err(NameFault::NotUtf8(fault.valid_up_to())),
+            Ok(text) => Ok(Name::from_text(alloc, text)?),
+            Err(fault) => Err(Refused::Fault(NameFault::NotUtf8(fault.valid_up_to()))),
         }
     }
 

@@ -1,8 +1,10 @@
 // Values added up for each stack.
 ghost use Rattle.std.specs.Prelude.{◌≡◌, ◌↔◌, ◌+◌, ◌^◌, ◌<◌, ◌≤◌, [], length, IsTrue, OnOk, OnErr, IsErrOf};
 ghost use Rattle.profile_model.specs.Sums.{AreSums, total_of, value_of, with_added};
+ghost use Rattle.faults.specs.declared.refused.Refused.TheVariants.{Fault};
 
 use crate::Stack;
+use faults::Refused;
 use std::alloc::{AllocError, Global};
 use std::collections::{BTreeMap, btree_map};
 use std::error::Error;
@@ -35,14 +37,12 @@ impl Model for StackSums {
 pub enum AddFault {
     /// All values together would pass `MAX_TOTAL`.
     Sum,
-    Memory,
 }
 
 impl fmt::Display for AddFault {
     fn fmt<W: fmt::Write>(&self, f: &mut fmt::Formatter<W>) -> fmt::Result {
         match self {
             AddFault::Sum => write!(f, "the values come to more than {MAX_TOTAL}"),
-            AddFault::Memory => write!(f, "out of memory"),
         }
     }
 }
@@ -61,29 +61,25 @@ impl StackSums {
     }
 
     /// Adds to the stack's value. A value of 0 changes nothing.
-    pub fn add(&mut self, stack: Stack, value: u64) -> Result<(), AddFault>
+    pub fn add(&mut self, stack: Stack, value: u64) -> Result<(), Refused<AddFault>>
         ensures ok { OnOk result (self.new ≡ with_added self.old stack value) }
-        ensures sum { IsErrOf result AddFault.Sum → 2 ^ 63 ≤ total_of self.old + value }
-        ensures over { 2 ^ 63 ≤ total_of self.old + value → IsErrOf result AddFault.Sum }
+        ensures sum { IsErrOf result (Fault AddFault.Sum) → 2 ^ 63 ≤ total_of self.old + value }
+        ensures over { 2 ^ 63 ≤ total_of self.old + value → IsErrOf result (Fault AddFault.Sum) }
         ensures fits { OnOk result (total_of self.old + value < 2 ^ 63) }
         ensures total { OnOk result (total_of self.new ≡ total_of self.old + value) }
         ensures err { OnErr result (self.new ≡ self.old) }
     {
         if value > MAX_TOTAL - self.total {
-            return Err(AddFault::Sum);
+            return Err(Refused::Fault(AddFault::Sum));
         }
         if value == 0 {
             return Ok(());
         }
-        match self.values.entry(stack) {
-            Ok(entry) => {
-                let held = entry.or_insert(0);
-                *held += value;
-                self.total += value;
-                Ok(())
-            }
-            Err(_) => Err(AddFault::Memory),
-        }
+        let entry = self.values.entry(stack)?;
+        let held = entry.or_insert(0);
+        *held += value;
+        self.total += value;
+        Ok(())
     }
 
     /// The value of a stack, 0 where it isn't there.

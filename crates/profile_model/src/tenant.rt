@@ -2,8 +2,11 @@
 ghost use Rattle.std.specs.Prelude.{◌≡◌, ℕ, None, Some, not, position, IsErrOf};
 ghost use Rattle.profile_model.specs.TenantPlaces.{is_dots, is_tenant_byte, wrong_place};
 ghost use Rattle.profile_model.specs.Tenants.{IsReadTenant};
+ghost use Rattle.faults.specs.Answers.{IfAnswered};
+ghost use Rattle.faults.specs.declared.refused.Refused.TheVariants.{Fault};
 
 use crate::Name;
+use faults::Refused;
 use std::alloc::{AllocError, Global};
 use std::error::Error;
 use std::fmt;
@@ -34,14 +37,12 @@ impl Model for Tenant {
 pub enum TenantFault {
     /// The first wrong byte among the first 150; else 150 where there are more; else 0.
     BadTenant(usize),
-    Memory,
 }
 
 impl fmt::Display for TenantFault {
     fn fmt<W: fmt::Write>(&self, f: &mut fmt::Formatter<W>) -> fmt::Result {
         match self {
             TenantFault::BadTenant(at) => write!(f, "no tenant: see byte {at}"),
-            TenantFault::Memory => write!(f, "out of memory"),
         }
     }
 }
@@ -50,17 +51,17 @@ impl Error for TenantFault {}
 
 impl Tenant {
     /// The tenant of these bytes.
-    pub fn read(alloc: Global, bytes: &[u8]) -> Result<Tenant, TenantFault>
-        ensures read { IsReadTenant bytes.now result }
-        ensures refused { (at : ℕ) → wrong_place bytes.now ≡ Some at → IsErrOf result (TenantFault.BadTenant at) }
+    pub fn read(alloc: Global, bytes: &[u8]) -> Result<Tenant, Refused<TenantFault>>
+        ensures read { IfAnswered (IsReadTenant bytes.now) result }
+        ensures refused { (at : ℕ) → wrong_place bytes.now ≡ Some at → IsErrOf result (Fault (TenantFault.BadTenant at)) }
     {
         if let Some(at) = wrong_tenant_byte(bytes) {
-            return Err(TenantFault::BadTenant(at));
+            return Err(Refused::Fault(TenantFault::BadTenant(at)));
         }
         // A tenant's bytes are all ASCII, so this is never refused.
         match Name::read(alloc, bytes) {
             Ok(name) => Ok(Tenant { name }),
-            Err(_) => Err(TenantFault::Memory),
+            Err(_) => Err(Refused::Memory),
         }
     }
 

@@ -1,5 +1,6 @@
 // What no clause says: that each call succeeds with ample memory, and the texts of the faults.
 use crate::*;
+use faults::Refused;
 use std::alloc::Global;
 use std::cmp::Ordering;
 use std::sync::ArcSlice;
@@ -38,7 +39,7 @@ fn name_is_kept(alloc: Global, bytes: &[u8], text: &str, length: usize) -> Resul
     Ok(copy.as_str() == text && copy.len() == length && name == copy)
 }
 
-fn name_fault(alloc: Global, bytes: &[u8]) -> Option<NameFault> {
+fn name_fault(alloc: Global, bytes: &[u8]) -> Option<Refused<NameFault>> {
     Name::read(alloc, bytes).err()
 }
 
@@ -46,7 +47,10 @@ fn name_fault(alloc: Global, bytes: &[u8]) -> Option<NameFault> {
 fn a_name_keeps_its_bytes_and_shares_them(rt: HostRuntime) -> Result<(), Fail> {
     let alloc = rt.alloc();
     assert!(rt; name_is_kept(alloc, b"main.run", "main.run", 8)?);
-    assert_eq!(rt; name_fault(alloc, b"ab\xffc"), Some(NameFault::NotUtf8(2)));
+    assert_eq!(rt;
+        name_fault(alloc, b"ab\xffc"),
+        Some(Refused::Fault(NameFault::NotUtf8(2)))
+    );
     Ok(())
 }
 
@@ -100,7 +104,7 @@ fn add(
     sums: &mut StackSums,
     texts: &[&str],
     value: u64,
-) -> Result<Result<(), AddFault>, Fail> {
+) -> Result<Result<(), Refused<AddFault>>, Fail> {
     let stack = stack(alloc, texts)?;
     Ok(sums.add(stack, value))
 }
@@ -138,7 +142,16 @@ fn value_of(alloc: Global, sums: &StackSums, texts: &[&str]) -> Result<u64, Fail
 }
 
 // What becomes of one value more than there is room for, of the most that there is room for, and of what was there.
-fn filled(alloc: Global) -> Result<(Result<(), AddFault>, Result<(), AddFault>, u64), Fail> {
+fn filled(
+    alloc: Global,
+) -> Result<
+    (
+        Result<(), Refused<AddFault>>,
+        Result<(), Refused<AddFault>>,
+        u64,
+    ),
+    Fail,
+> {
     let mut sums = sums_of(alloc, &SAMPLES)?;
     let over = add(alloc, &mut sums, &["x"], MAX_TOTAL - 9)?;
     let most = add(alloc, &mut sums, &["x"], MAX_TOTAL - 10)?;
@@ -151,7 +164,10 @@ fn equal_stacks_are_summed_and_others_ascend(rt: HostRuntime) -> Result<(), Fail
     let alloc = rt.alloc();
     assert_eq!(rt; count_and_total(alloc)?, (3, 10));
     assert!(rt; values_are(alloc, &[2, 3, 5])?);
-    assert_eq!(rt; filled(alloc)?, (Err(AddFault::Sum), Ok(()), 5));
+    assert_eq!(rt;
+        filled(alloc)?,
+        (Err(Refused::Fault(AddFault::Sum)), Ok(()), 5)
+    );
     Ok(())
 }
 
@@ -161,7 +177,7 @@ fn tenant_is_kept(alloc: Global, bytes: &[u8]) -> Result<bool, Fail> {
     Ok(tenant.as_bytes() == bytes && tenant == copy)
 }
 
-fn tenant_fault(alloc: Global, bytes: &[u8]) -> Option<TenantFault> {
+fn tenant_fault(alloc: Global, bytes: &[u8]) -> Option<Refused<TenantFault>> {
     Tenant::read(alloc, bytes).err()
 }
 
@@ -180,7 +196,7 @@ fn a_tenant_is_told_from_what_is_none(rt: HostRuntime) -> Result<(), Fail> {
         assert_eq!(rt; wrong_tenant_byte(bytes), Some(at));
         assert_eq!(rt;
             tenant_fault(alloc, bytes),
-            Some(TenantFault::BadTenant(at))
+            Some(Refused::Fault(TenantFault::BadTenant(at)))
         );
     }
     assert_eq!(rt; wrong_tenant_byte([b'a'; 150].as_slice()), None);
@@ -209,7 +225,7 @@ fn has_period_type(alloc: Global, text: &str, period_type: &str) -> Result<bool,
     Ok(kind.period_type.as_str() == period_type)
 }
 
-fn type_fault(alloc: Global, text: &str) -> Option<TypeFault> {
+fn type_fault(alloc: Global, text: &str) -> Option<Refused<TypeFault>> {
     ProfileType::read(alloc, text).err()
 }
 
@@ -220,7 +236,10 @@ fn a_type_has_five_parts(rt: HostRuntime) -> Result<(), Fail> {
     assert!(rt; type_is_kept(alloc, text, "process_cpu", "count", "nanoseconds")?);
     assert!(rt; has_period_type(alloc, "::::", "")?);
     for text in ["", "a:b:c:d", "a:b:c:d:e:f"] {
-        assert_eq!(rt; type_fault(alloc, text), Some(TypeFault::NotFiveParts));
+        assert_eq!(rt;
+            type_fault(alloc, text),
+            Some(Refused::Fault(TypeFault::NotFiveParts))
+        );
     }
     Ok(())
 }
@@ -319,7 +338,7 @@ fn fault_of(
     alloc: Global,
     first: (&str, &str),
     second: (&str, &str),
-) -> Result<Option<LabelFault>, Fail> {
+) -> Result<Option<Refused<LabelFault>>, Fail> {
     let given = pairs(alloc, &[first, second])?;
     Ok(LabelSet::from_pairs(alloc, &given).err())
 }
@@ -337,7 +356,7 @@ fn wrong_case(alloc: Global, name: &str, value: &str) -> Result<Option<usize>, F
         (("a", "1"), ("a", ""), LabelFault::Repeated(1)),
     ];
     for (at, (first, second, fault)) in cases.iter().enumerate() {
-        if fault_of(alloc, *first, *second)? != Some(*fault) {
+        if fault_of(alloc, *first, *second)? != Some(Refused::Fault(*fault)) {
             return Ok(Some(at));
         }
     }
@@ -393,7 +412,7 @@ fn count_of_thirty(alloc: Global) -> Result<usize, Fail> {
     Ok(labels.pairs().len())
 }
 
-fn fault_of_one_more(alloc: Global) -> Result<Option<LabelFault>, Fail> {
+fn fault_of_one_more(alloc: Global) -> Result<Option<Refused<LabelFault>>, Fail> {
     let mut given = thirty_pairs(alloc)?;
     given.push(pair(alloc, "last", "v")?)?;
     Ok(LabelSet::from_pairs(alloc, &given).err())
@@ -403,7 +422,10 @@ fn fault_of_one_more(alloc: Global) -> Result<Option<LabelFault>, Fail> {
 fn thirty_labels_have_a_value_and_no_more(rt: HostRuntime) -> Result<(), Fail> {
     let alloc = rt.alloc();
     assert_eq!(rt; count_of_thirty(alloc)?, 30);
-    assert_eq!(rt; fault_of_one_more(alloc)?, Some(LabelFault::TooMany));
+    assert_eq!(rt;
+        fault_of_one_more(alloc)?,
+        Some(Refused::Fault(LabelFault::TooMany))
+    );
     Ok(())
 }
 

@@ -1,7 +1,7 @@
 -- Labels: found by name, one left out, one put in its place, pairs that break no rule.
-use Rattle.std.proofs.Common.{◌≡◌, ◌∙◌, ◌<◌, ◌≤◌, ◌+◌, ℕ, zero, suc, Bool, true, false, ◌||◌, List, [], ◌∷◌, ◌++◌, length, take, set, get_or, refl, sym, ap, arith, add-one, cond, filter, fold, nat_eq, nat_lt, All, Option, Some, None, Ok, Err, option_map, insert}
+use Rattle.std.proofs.Common.{◌≡◌, ◌∙◌, ◌<◌, ◌≤◌, ◌+◌, ℕ, zero, suc, Bool, true, false, ◌||◌, List, [], ◌∷◌, ◌++◌, length, take, set, get_or, refl, sym, ap, arith, add-one, cond, filter, nat_eq, nat_lt, All, Option, Some, None, Ok, Err, option_map, insert}
 use Rattle.std.specs.Prelude.{IfSome, IsTrue, IsSomeAnd, slice_get}
-use Rattle.std.specs.BTreeMap.{insert_entry, is_at}
+use Rattle.std.specs.BTreeMap.{is_at}
 use Rattle.std.specs.List.{AllByRecursion, IsDistinct, find, list_any}
 use Rattle.std.specs.List.Sorted.{IsStrictlySortedBy}
 use Rattle.std.specs.Map.{keys_of, lookup}
@@ -20,6 +20,7 @@ use Rattle.std.proofs.lemmas.Map.Entries.{none_past_head}
 use Rattle.std.proofs.lemmas.Map.Keys.{IsDistinct-push, IsDistinct-tail}
 use Rattle.std.proofs.lemmas.Map.Made.{IsDistinct-keys_filter}
 use Rattle.profile_model.proofs.EntryLemmas.{all_entries, length-insert_entry, lookup-insert_entry, sorted-insert_entry}
+use Rattle.profile_model.specs.Limits.{most_labels, most_value_bytes}
 use Rattle.profile_model.specs.Stacks.{name_cmp}
 use Rattle.profile_model.specs.ReadLabels.{IsFirstFault, IsReadLabels}
 use Rattle.profile_model.specs.LabelPlaces.{IsPlace, put_all}
@@ -68,7 +69,7 @@ any_key [] name = refl
 any_key (x ∷ xs) name = ap (λ b. pointwise nat_eq name x.0 || b) (any_key xs name)
 
 pub AreSound-more : (pairs : List Label) (at : ℕ) (pair : Label) → at < length pairs → AreSound (take at pairs) → pair ≡ get_or pairs at pair
-    → IsTrue (is_label_name pair.0) → length pair.1 ≤ 2048 → has_label (take at pairs) pair.0 ≡ false → AreSound (take (at + 1) pairs)
+    → IsTrue (is_label_name pair.0) → length pair.1 ≤ most_value_bytes → has_label (take at pairs) pair.0 ≡ false → AreSound (take (at + 1) pairs)
 AreSound-more pairs at pair short sound is named valued new =
     let next : take (at + 1) pairs ≡ take at pairs ++ pair ∷ [] =
     rw add-one (take-suc pairs at pair short ∙ ap (λ (last : Label). take at pairs ++ last ∷ []) (sym is)) in
@@ -76,7 +77,7 @@ AreSound-more pairs at pair short sound is named valued new =
     map-append (λ (x : Label). x.0) (take at pairs) (pair ∷ []) in
     rw next (record {
       names = All-push (λ (x : Label). IsTrue (is_label_name x.0)) (take at pairs) pair sound.names named;
-      values = All-push (λ (x : Label). length x.1 ≤ 2048) (take at pairs) pair sound.values valued;
+      values = All-push (λ (x : Label). length x.1 ≤ most_value_bytes) (take at pairs) pair sound.values valued;
       distinct = rw keys (IsDistinct-push nat_list_eq_equiv (keys_of (take at pairs)) pair.0 sound.distinct (any_key (take at pairs) pair.0 ∙ new));
     })
 
@@ -144,7 +145,7 @@ each-with_label : (labels : List Label) (name value : List ℕ) → IsLabel (nam
 each-with_label labels name value new all =
     all_entries IsLabel name_cmp name value labels new (λ e old. record { name = old.name; value = new.value }) all
 
-pub AreProfileLabels-with_label : (labels : List Label) (name value : List ℕ) → length labels ≤ 30 → AreProfileLabels labels → IsLabel (name, value)
+pub AreProfileLabels-with_label : (labels : List Label) (name value : List ℕ) → length labels ≤ most_labels → AreProfileLabels labels → IsLabel (name, value)
     → AreProfileLabels (with_label labels name value)
 AreProfileLabels-with_label labels name value few are new = record {
   few = let more = length-insert_entry name_cmp labels name value in omega arith;
@@ -202,17 +203,17 @@ sound_labels pairs sound k d short = record {
   name = All-filter (λ (x : Label). nat_lt 0 (length x.1)) (λ (x : Label). IsTrue (is_label_name x.0)) pairs sound.names k d short;
   value = (
     ltb-true _ _ (filter_passes (λ (x : Label). nat_lt 0 (length x.1)) pairs k d short),
-    All-filter (λ (x : Label). nat_lt 0 (length x.1)) (λ (x : Label). length x.1 ≤ 2048) pairs sound.values k d short,
+    All-filter (λ (x : Label). nat_lt 0 (length x.1)) (λ (x : Label). length x.1 ≤ most_value_bytes) pairs sound.values k d short,
   );
 }
 
 -- what the labels of pairs are, where these break no rule
 pub record AreRead (pairs labels : List Label) : Type 0 where
   pub read : IsReadLabels pairs (Ok labels)
-  pub few : length labels ≤ 30
+  pub few : length labels ≤ most_labels
   pub profile : AreProfileLabels labels
 
-pub read_labels : (pairs : List Label) → AreSound pairs → length (with_value pairs) ≤ 30 → AreRead pairs (put_all [] (with_value pairs))
+pub read_labels : (pairs : List Label) → AreSound pairs → length (with_value pairs) ≤ most_labels → AreRead pairs (put_all [] (with_value pairs))
 read_labels pairs sound few =
     let kept = with_value pairs in
     let apart = IsDistinct-keys_filter (pointwise nat_eq) (λ (x : Label). nat_lt 0 (length x.1)) pairs sound.distinct in

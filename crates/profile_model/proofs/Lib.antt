@@ -2,6 +2,5 @@ pub mod EntryLemmas
 pub mod SumLemmas
 pub mod SumLawLemmas
 pub mod KindLemmas
-pub mod HistoryLemmas
 pub mod BreakLemmas
 pub mod LabelLemmas

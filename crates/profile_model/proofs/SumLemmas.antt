@@ -1,11 +1,12 @@
 -- What adding a value does to the sums.
-use Rattle.std.proofs.Common.{◌≡◌, ◌∙◌, ℕ, ◌+◌, ◌^◌, ◌<◌, ◌≤◌, List, ap, arith, Some, None, Option}
+use Rattle.std.proofs.Common.{◌≡◌, ◌∙◌, ℕ, ◌+◌, ◌<◌, ◌≤◌, List, ap, arith, Some, None, Option}
 use Rattle.std.specs.Prelude.{unwrap_or, option_map, refl}
 use Rattle.std.specs.List.Sorted.{IsStrictlySortedBy}
 use Rattle.std.specs.Map.{lookup, keys_of}
 use Rattle.std.specs.BTreeMap.{is_at, insert_entry}
 use Rattle.std.proofs.lemmas.Map.Views.{All-values-insert_entry}
 use Rattle.std.proofs.lemmas.Map.Entries.{sum_by-insert_entry, sum_by-remove_entry}
+use Rattle.profile_model.specs.Limits.{total_bound}
 use Rattle.profile_model.specs.Stacks.{stack_cmp}
 use Rattle.profile_model.specs.StackOrder.{stacks_total}
 use Rattle.profile_model.specs.StoredSums.{AreStored}
@@ -36,7 +37,7 @@ total-inserted before now stack held value view is sorted after made = rw (made,
 -- sums as they are kept, with a value added to a stack's
 pub stored-inserted : (before after : List Sample) (stack : List (List ℕ)) (held value total : ℕ) → held ≡ value_of before stack
     → IsStrictlySortedBy stack_cmp (keys_of before) → after ≡ insert_entry stack_cmp before stack (held + value)
-    → AreStored before total → 0 < value → total + value < 2 ^ 63 → AreStored after (total + value)
+    → AreStored before total → 0 < value → total + value < total_bound → AreStored after (total + value)
 stored-inserted before after stack held value total is sorted made stored some fits =
     let grown = total-inserted before before stack held value refl is sorted after made in
     let was = stored.summed in

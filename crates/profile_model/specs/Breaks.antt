@@ -1,5 +1,5 @@
 -- How far a text goes on as texts of a form do, and where it breaks off.
-use Rattle.std.specs.Prelude.{◌≡◌, ℕ, ◌<◌, ◌≤◌, List, ◌++◌, length, take}
+use Rattle.std.specs.Prelude.{ℕ, ◌<◌, ◌≤◌, List, ◌++◌, length, take}
 
 -- some text of the form begins with these bytes
 abbrev pub Begins : (List ℕ → Type 0) → List ℕ → Type 0

@@ -6,6 +6,7 @@ use Rattle.std.specs.List.Sorted.{IsStrictlySortedBy}
 use Rattle.std.specs.BTreeMap.{insert_entry}
 use Rattle.std.specs.Map.{keys_of, lookup}
 use Rattle.std.specs.Cmp.Lexicographic.{pointwise}
+use Rattle.profile_model.specs.Limits.{most_name_bytes, most_profile_labels, most_value_bytes}
 use Rattle.profile_model.specs.Stacks.{name_cmp}
 
 -- a label's name and value
@@ -41,32 +42,32 @@ begins_with_digit [] = false
 begins_with_digit (b ∷ bytes) = is_ascii_digit b
 
 abbrev pub is_name_length : ℕ → Bool
-is_name_length n = nat_lt 0 n && nat_le n 1024
+is_name_length n = nat_lt 0 n && nat_le n most_name_bytes
 
--- 1 to 1,024 such bytes, the first no digit
+-- at least one such byte and not too many, the first no digit
 abbrev pub is_label_name : List ℕ → Bool
 is_label_name name =
     is_name_length (length name) && list_all is_label_byte name && not (begins_with_digit name)
 
--- a label's value has at least one byte and at most 2,048
+-- a label's value isn't empty, nor too long
 abbrev pub IsLabelValue : List ℕ → Type 0
-IsLabelValue value = (0 < length value) × (length value ≤ 2048)
+IsLabelValue value = (0 < length value) × (length value ≤ most_value_bytes)
 
 -- a label of a profile
 pub record IsLabel (label : Label) : Type 0 where
   pub name : IsTrue (is_label_name label.0)
   pub value : IsLabelValue label.1
 
--- a profile has at most 31 labels: 30 from a request, and the service's name where it is added to them
+-- the labels of a profile
 pub record AreProfileLabels (labels : List Label) : Type 0 where
-  pub few : length labels ≤ 31
+  pub few : length labels ≤ most_profile_labels
   pub each : All IsLabel labels
 
--- Pairs that labels may be made of: each has a name of a label and at most 2,048 bytes of value, and no
+-- Pairs that labels may be made of: each has a name of a label and a value that isn't too long, and no
 -- name comes twice.
 pub record AreSound (pairs : List Label) : Type 0 where
   pub names : All (λ pair. IsTrue (is_label_name pair.0)) pairs
-  pub values : All (λ pair. length pair.1 ≤ 2048) pairs
+  pub values : All (λ pair. length pair.1 ≤ most_value_bytes) pairs
   pub distinct : IsDistinct (pointwise nat_eq) (keys_of pairs)
 
 -- the pairs whose value isn't empty

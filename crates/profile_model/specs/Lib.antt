@@ -1,3 +1,4 @@
+pub mod Limits
 pub mod Breaks
 pub mod Names
 pub mod Stacks
@@ -17,6 +18,6 @@ pub mod LabelPlaces
 pub mod LabelOrder
 pub mod ReadLabels
 pub mod LabelFaults
+pub mod Series
 pub mod Pushes
-pub mod History
 pub mod Weights

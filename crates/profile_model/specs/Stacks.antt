@@ -4,15 +4,16 @@ use Rattle.std.specs.List.{All}
 use Rattle.std.specs.Ordering.{nat_cmp}
 use Rattle.std.specs.declared.cmp.Ordering.{Ordering}
 use Rattle.std.specs.Cmp.Lexicographic.{slice_cmp}
+use Rattle.profile_model.specs.Limits.{most_frames, most_frame_bytes}
 
--- a frame's name has at least one byte and at most 65,535
+-- a frame's name isn't empty, nor too long
 abbrev pub IsFrame : List ℕ → Type 0
-IsFrame frame = (0 < length frame) × (length frame ≤ 65535)
+IsFrame frame = (0 < length frame) × (length frame ≤ most_frame_bytes)
 
--- frames, root first: at least one and at most 1,024
+-- frames, root first: at least one, and not too many
 pub record IsStack (frames : List (List ℕ)) : Type 0 where
   pub some : 0 < length frames
-  pub few : length frames ≤ 1024
+  pub few : length frames ≤ most_frames
   pub each : All IsFrame frames
 
 -- by bytes, a proper prefix first

@@ -1,9 +1,10 @@
 -- Values added up for each stack.
-use Rattle.std.specs.Prelude.{◌==◌, ℕ, ◌+◌, ◌^◌, ◌<◌, List, [], fold, sum_by, unwrap_or, if◌then◌else◌}
+use Rattle.std.specs.Prelude.{◌==◌, ℕ, ◌+◌, ◌<◌, List, [], fold, sum_by, unwrap_or, if◌then◌else◌}
 use Rattle.std.specs.List.{All}
 use Rattle.std.specs.List.Sorted.{IsStrictlySortedBy}
 use Rattle.std.specs.Map.{lookup, keys_of, values_of}
 use Rattle.std.specs.BTreeMap.{is_at, insert_entry}
+use Rattle.profile_model.specs.Limits.{total_bound}
 use Rattle.profile_model.specs.Stacks.{stack_cmp}
 
 -- a stack, root first, and its value
@@ -27,8 +28,8 @@ with_added sums stack value =
 abbrev pub sums_of : List Sample → List Sample
 sums_of samples = fold (λ sums sample. with_added sums sample.0 sample.1) [] samples
 
--- stacks ascend and are distinct, each value is at least 1, and all together are below 2^63
+-- stacks ascend and are distinct, each value is at least 1, and all together are bounded
 pub record AreSums (sums : List Sample) : Type 0 where
   pub ascending : IsStrictlySortedBy stack_cmp (keys_of sums)
   pub positive : All (λ value. 0 < value) (values_of sums)
-  pub bounded : total_of sums < 2 ^ 63
+  pub bounded : total_of sums < total_bound

@@ -18,6 +18,13 @@ abbrev pub profile_weight : Profile → ℕ
 profile_weight profile =
     128 + sum_by label_weight profile.labels + sum_by length (parts_in profile.kind) + sum_by (λ sample. stack_weight sample.0) profile.values
 
--- a push weighs 256 and its profiles
+-- all profiles together
+abbrev pub profiles_weight : List Profile → ℕ
+profiles_weight profiles = sum_by profile_weight profiles
+
+-- a push of these profiles weighs 256 and the profiles
+abbrev pub weight_in_push : List Profile → ℕ
+weight_in_push profiles = 256 + profiles_weight profiles
+
 abbrev pub push_weight : Push → ℕ
-push_weight push = 256 + sum_by profile_weight push.profiles
+push_weight push = weight_in_push push.profiles

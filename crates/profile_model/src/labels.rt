@@ -4,6 +4,7 @@ ghost use Rattle.std.specs.List.{list_all};
 ghost use Rattle.std.specs.Cmp;
 ghost use Rattle.std.specs.Cmp.Lexicographic.{pointwise};
 ghost use Rattle.profile_model.specs.LabelSets.{AreLabels, AreProfileLabels, AreSound, IsLabel, IsLabelValue, begins_with_digit, has_label, is_label_byte, is_label_name, is_name_length, label_of, with_label, with_value, without_label};
+ghost use Rattle.profile_model.specs.Limits.{most_labels};
 ghost use Rattle.profile_model.specs.LabelPlaces.{IsPlace, put_all};
 ghost use Rattle.profile_model.specs.LabelOrder.{labels_cmp, labels_eq, labels_equiv, labels_po, labels_ties, labels_total};
 ghost use Rattle.profile_model.specs.ReadLabels.{IsPairFault, IsReadLabels};
@@ -124,8 +125,8 @@ impl LabelSet {
         pairs: &[(Name, Name)],
     ) -> Result<LabelSet, Refused<LabelFault>>
         ensures read { IfAnswered (IsReadLabels pairs.now) result }
-        ensures memory { IsErrOf result Memory → AreSound pairs.now × (length (with_value pairs.now) ≤ 30) }
-        ensures few { IfOk result (λ labels. length labels ≤ 30) }
+        ensures memory { IsErrOf result Memory → AreSound pairs.now × (length (with_value pairs.now) ≤ most_labels) }
+        ensures few { IfOk result (λ labels. length labels ≤ most_labels) }
         ensures profile { IfOk result AreProfileLabels }
     {
         if let Some(fault) = first_fault(pairs) {
@@ -166,7 +167,7 @@ impl LabelSet {
     /// Puts the label in its place, or in the place of the one with its name.
     pub fn set(&mut self, name: Name, value: Name) -> Result<(), AllocError>
         ensures ok { OnOk result (self.new ≡ with_label self.old name value) }
-        ensures profile { OnOk result (length self.old ≤ 30 → AreProfileLabels self.old → IsLabel (name, value) → AreProfileLabels self.new) }
+        ensures profile { OnOk result (length self.old ≤ most_labels → AreProfileLabels self.old → IsLabel (name, value) → AreProfileLabels self.new) }
         ensures err { OnErr result (self.new ≡ self.old) }
     {
         match place_of(&self.pairs, &name) {

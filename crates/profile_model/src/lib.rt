@@ -1,7 +1,6 @@
 //! What a profile is: names, stacks and their sums, labels, types, tenants and pushes, with their limits and weights.
 #![tactic(auto)]
 
-mod history;
 mod kind;
 mod labels;
 mod laws;
@@ -9,6 +8,7 @@ mod name;
 mod part_ask;
 mod profile;
 mod push;
+mod series;
 mod stack;
 mod sums;
 mod tenant;
@@ -16,7 +16,6 @@ mod tenant;
 mod tests;
 mod weight;
 
-pub use history::{front, kept_total};
 pub use kind::{ProfileType, TypeFault};
 pub use labels::{
     LabelFault, LabelSet, MAX_LABELS, MAX_NAME_BYTES, MAX_VALUE_BYTES, SERVICE_LABEL,
@@ -26,6 +25,8 @@ pub use name::{Name, NameFault};
 pub use part_ask::PartAsk;
 pub use profile::{MAX_PROFILES, Profile, Profiles};
 pub use push::Push;
+pub use series::{NAME_LABEL, TYPE_LABEL, own_labels, type_name};
 pub use stack::{MAX_FRAME_BYTES, MAX_FRAMES, Stack, StackFault};
 pub use sums::{AddFault, MAX_TOTAL, StackSums};
 pub use tenant::{MAX_TENANT_BYTES, Tenant, TenantFault, wrong_tenant_byte};
+pub use weight::MAX_WEIGHT;

@@ -1,6 +1,7 @@
 // Samples of one program over one stretch of time.
 ghost use Rattle.std.specs.Prelude.{◌≡◌, ◌^◌, ◌<◌, ◌≤◌, [], ◌∷◌, length, IfOk};
 ghost use Rattle.profile_model.specs.LabelSets.{AreProfileLabels};
+ghost use Rattle.profile_model.specs.Limits.{most_profiles};
 
 use crate::{LabelSet, ProfileType, StackSums};
 use std::alloc::{AllocError, Global};
@@ -28,13 +29,14 @@ pub struct Profiles {
 
 impl Model for Profiles {
     ghost use Rattle.std.specs.Prelude.{◌≤◌, List, length};
+    ghost use Rattle.profile_model.specs.Limits.{most_profiles};
     ghost use Rattle.profile_model.specs.declared.profile.Profile.{Profile};
 
     ghost Value = { List Profile };
 
     ghost view = { λ p. p.items.items };
 
-    ghost invariant = { λ p. length p.items.items ≤ 4096 };
+    ghost invariant = { λ p. length p.items.items ≤ most_profiles };
 }
 
 impl Profiles {
@@ -49,7 +51,7 @@ impl Profiles {
 
     /// These profiles. It takes no memory.
     pub fn from_vec(items: Vec<Profile>) -> Profiles
-        requires { length items.items ≤ 4096 }
+        requires { length items.items ≤ most_profiles }
         ensures { result ≡ items.items }
     {
         Profiles { items }
@@ -58,14 +60,14 @@ impl Profiles {
     /// The profiles themselves. It takes no memory.
     pub fn into_vec(self) -> Vec<Profile>
         ensures value { result.items ≡ self }
-        ensures few { length self ≤ 4096 }
+        ensures few { length self ≤ most_profiles }
     {
         self.items
     }
 
     pub fn as_slice(&self) -> &[Profile]
         ensures value { result.now ≡ self.now }
-        ensures few { length self.now ≤ 4096 }
+        ensures few { length self.now ≤ most_profiles }
     {
         &self.items
     }

@@ -1,5 +1,6 @@
 // What one accepted write request means.
 ghost use Rattle.std.specs.Prelude.{◌≡◌, ◌^◌, ◌≤◌, length};
+ghost use Rattle.profile_model.specs.Limits.{most_profiles};
 ghost use Rattle.profile_model.specs.Pushes.{profiles_total};
 
 use crate::{Profile, Profiles, Tenant};
@@ -22,7 +23,7 @@ impl Push {
 }
 
 fn total_of_profiles(profiles: &[Profile]) -> u128
-    requires { length profiles.now ≤ 4096 }
+    requires { length profiles.now ≤ most_profiles }
     ensures total { result ≡ profiles_total profiles.now }
     ensures bound { result ≤ 2 ^ 75 }
 {

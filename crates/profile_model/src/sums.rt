@@ -1,5 +1,6 @@
 // Values added up for each stack.
-ghost use Rattle.std.specs.Prelude.{◌≡◌, ◌↔◌, ◌+◌, ◌^◌, ◌<◌, ◌≤◌, [], length, IsTrue, OnOk, OnErr, IsErrOf};
+ghost use Rattle.std.specs.Prelude.{◌≡◌, ◌↔◌, ◌+◌, ◌<◌, ◌≤◌, [], length, IsTrue, OnOk, OnErr, IsErrOf};
+ghost use Rattle.profile_model.specs.Limits.{total_bound};
 ghost use Rattle.profile_model.specs.Sums.{AreSums, total_of, value_of, with_added};
 ghost use Rattle.faults.specs.declared.refused.Refused.TheVariants.{Fault};
 
@@ -63,9 +64,9 @@ impl StackSums {
     /// Adds to the stack's value. A value of 0 changes nothing.
     pub fn add(&mut self, stack: Stack, value: u64) -> Result<(), Refused<AddFault>>
         ensures ok { OnOk result (self.new ≡ with_added self.old stack value) }
-        ensures sum { IsErrOf result (Fault AddFault.Sum) → 2 ^ 63 ≤ total_of self.old + value }
-        ensures over { 2 ^ 63 ≤ total_of self.old + value → IsErrOf result (Fault AddFault.Sum) }
-        ensures fits { OnOk result (total_of self.old + value < 2 ^ 63) }
+        ensures sum { IsErrOf result (Fault AddFault.Sum) → total_bound ≤ total_of self.old + value }
+        ensures over { total_bound ≤ total_of self.old + value → IsErrOf result (Fault AddFault.Sum) }
+        ensures fits { OnOk result (total_of self.old + value < total_bound) }
         ensures total { OnOk result (total_of self.new ≡ total_of self.old + value) }
         ensures err { OnErr result (self.new ≡ self.old) }
     {
@@ -92,7 +93,7 @@ impl StackSums {
     /// All values together.
     pub fn total(&self) -> u64
         ensures total { result ≡ total_of self.now }
-        ensures bound { result < 2 ^ 63 }
+        ensures bound { result < total_bound }
     {
         self.total
     }

@@ -1,10 +1,14 @@
 // What pushes weigh: texts by their bytes, and a little for each that is kept.
 ghost use Rattle.std.specs.Prelude.{◌≡◌, ◌+◌, ◌*◌, ◌-◌, ◌^◌, ◌≤◌, length, min, sum_by};
+ghost use Rattle.profile_model.specs.Limits.{most_frame_bytes};
 ghost use Rattle.profile_model.specs.ReadKinds.{parts_in};
 ghost use Rattle.profile_model.specs.Stacks.{IsStack};
-ghost use Rattle.profile_model.specs.Weights.{label_weight, profile_weight, push_weight, stack_weight};
+ghost use Rattle.profile_model.specs.Weights.{label_weight, profile_weight, profiles_weight, push_weight, stack_weight};
 
 use crate::{Name, Profile, ProfileType, Push, Stack, StackSums};
+
+/// The most that a push may weigh.
+pub const MAX_WEIGHT: u64 = 268_435_456;
 
 impl Stack {
     /// What the stack weighs.
@@ -40,7 +44,7 @@ impl Push {
 fn weight_of_frames(frames: &[Name]) -> u64
     requires { IsStack frames.now }
     ensures weight { result ≡ sum_by (λ frame. 16 + length frame) frames.now }
-    ensures bound { result ≤ 65551 * length frames.now }
+    ensures bound { result ≤ (16 + most_frame_bytes) * length frames.now }
 {
     let mut weight: u64 = 0;
     for frame in frames {
@@ -83,7 +87,7 @@ fn weight_of_values(values: &StackSums) -> u64
 }
 
 fn weight_of_profiles(profiles: &[Profile]) -> u64
-    ensures { result ≡ min (sum_by profile_weight profiles.now) (2 ^ 64 - 1) }
+    ensures { result ≡ min (profiles_weight profiles.now) (2 ^ 64 - 1) }
 {
     let mut weight: u64 = 0;
     for profile in profiles {

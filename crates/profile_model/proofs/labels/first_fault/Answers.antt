@@ -1,4 +1,4 @@
-use Rattle.std.proofs.Common.{◌≡◌, ◌∙◌, ◌<◌, ◌≤◌, ap, arith, false, length, sym, take, true}
+use Rattle.std.proofs.Common.{◌≡◌, ◌∙◌, ap, arith, false, length, sym, take, true}
 use Rattle.profile_model.specs.LabelSets.{Label, has_label, is_label_name}
 use Rattle.profile_model.proofs.LabelLemmas.{AreSound-none, AreSound-more, AreSound-all, first_fault}
 use Rattle.profile_model.proofs.labels.first_fault.Goals as goal

@@ -1,6 +1,6 @@
-use Rattle.std.proofs.Common.{◌≡◌, ◌-◌, ◌^◌, min, take, sum_by}
-use Rattle.profile_model.specs.Weights.{profile_weight}
+use Rattle.std.proofs.Common.{◌≡◌, ◌-◌, ◌^◌, min, take}
+use Rattle.profile_model.specs.Weights.{profiles_weight}
 use Rattle.profile_model.proofs.weight.weight_of_profiles.Given as goal
 
 abbrev pub invariant-loop-profile : goal.invariant-loop-profile
-invariant-loop-profile l = l.weight ≡ min (sum_by profile_weight (take l.profile-index l.profiles)) (2 ^ 64 - 1)
+invariant-loop-profile l = l.weight ≡ min (profiles_weight (take l.profile-index l.profiles)) (2 ^ 64 - 1)

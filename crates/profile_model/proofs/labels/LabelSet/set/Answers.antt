@@ -1,4 +1,4 @@
-use Rattle.std.proofs.Common.{◌≡◌, ◌∙◌, List, ap, insert, set, subst, sym}
+use Rattle.std.proofs.Common.{◌≡◌, ◌∙◌, List, ap, set, subst, sym}
 use Rattle.profile_model.specs.LabelSets.{Label, AreLabels, AreProfileLabels, with_label}
 use Rattle.profile_model.proofs.LabelLemmas.{AreLabels-with_label, AreProfileLabels-with_label, label_inserted, label_replaced}
 use Rattle.profile_model.proofs.labels.LabelSet.set.Goals as goal

@@ -1,4 +1,4 @@
-use Rattle.std.proofs.Common.{rules, ◌≡◌, ◌∙◌, ap, nat_eq, not, sym}
+use Rattle.std.proofs.Common.{rules, ◌∙◌, ap, nat_eq, not}
 use Rattle.std.proofs.lemmas.Fn.{filter_same}
 use Rattle.std.specs.Cmp.Lexicographic.{pointwise}
 use Rattle.profile_model.specs.LabelSets.{Label, without_label}

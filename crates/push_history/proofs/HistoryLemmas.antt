@@ -3,10 +3,11 @@ use Rattle.std.proofs.Common.{◌≡◌, ◌+◌, ◌≤◌, ◌<◌, ℕ, zero,
 use Rattle.std.proofs.Math.Seq.{take-suc}
 use Rattle.std.proofs.lemmas.Bool.{true≢false}
 use Rattle.std.proofs.lemmas.List.Sums.{sum_by-cons}
-use Rattle.std.specs.Prelude.{◌^◌, filter, sum_by, nat_eq, if◌then◌else◌}
+use Rattle.std.specs.Prelude.{filter, sum_by, nat_eq, if◌then◌else◌}
 use Rattle.std.specs.Cmp.Lexicographic.{pointwise, bytes_decides}
+use Rattle.profile_model.specs.Limits.{total_bound}
 use Rattle.profile_model.specs.Pushes.{profiles_total}
-use Rattle.profile_model.specs.History.{HasBoundedTotals, pushes_of, pushes_total, tenant_total}
+use Rattle.push_history.specs.History.{HasBoundedTotals, pushes_of, pushes_total, tenant_total}
 use Rattle.profile_model.specs.declared.push.Push.{Push}
 
 -- the sum over those that pass among the first i, and the next that passes, are within the sum over all that pass
@@ -42,14 +43,14 @@ tenant_total-push (first ∷ history) push tenant = by (pointwise nat_eq first.t
     by false later = later
 
 -- a push that its tenant's total has room for keeps all totals bounded
-pub bounded-push : (history : List Push) (push : Push) → HasBoundedTotals history → tenant_total history push.tenant + profiles_total push.profiles < 2 ^ 63
+pub bounded-push : (history : List Push) (push : Push) → HasBoundedTotals history → tenant_total history push.tenant + profiles_total push.profiles < total_bound
     → HasBoundedTotals (history ++ push ∷ [])
 bounded-push history push bounded room tenant = by (pointwise nat_eq push.tenant tenant) refl
   where
     same : pointwise nat_eq push.tenant tenant ≡ true → push.tenant ≡ tenant
     same is = (bytes_decides push.tenant tenant).0 is
 
-    by : (own : Bool) → pointwise nat_eq push.tenant tenant ≡ own → tenant_total (history ++ push ∷ []) tenant < 2 ^ 63
+    by : (own : Bool) → pointwise nat_eq push.tenant tenant ≡ own → tenant_total (history ++ push ∷ []) tenant < total_bound
     by true is = rw (tenant_total-push history push tenant, is, ← same is) room
     by false is = let below = bounded tenant in rw (tenant_total-push history push tenant, is) (omega arith)
 

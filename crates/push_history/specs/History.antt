@@ -1,7 +1,8 @@
 -- The list of accepted pushes, and what it holds of one tenant.
-use Rattle.std.specs.Prelude.{◌&&◌, ℕ, ◌^◌, ◌<◌, List, length, take, filter, sum_by, nat_eq, nat_le}
+use Rattle.std.specs.Prelude.{◌&&◌, ℕ, ◌<◌, List, length, take, filter, sum_by, nat_eq, nat_le}
 use Rattle.std.specs.List.{flat_map}
 use Rattle.std.specs.Cmp.Lexicographic.{pointwise}
+use Rattle.profile_model.specs.Limits.{total_bound}
 use Rattle.profile_model.specs.Sums.{Sample, sums_of}
 use Rattle.profile_model.specs.Pushes.{profiles_total}
 use Rattle.profile_model.specs.declared.profile.Profile.{Profile}
@@ -23,9 +24,9 @@ pushes_total pushes = sum_by (λ push. profiles_total push.profiles) pushes
 abbrev pub tenant_total : List Push → List ℕ → ℕ
 tenant_total history tenant = pushes_total (pushes_of history tenant)
 
--- each tenant's total is below 2^63
+-- each tenant's total is bounded
 abbrev pub HasBoundedTotals : List Push → Type 0
-HasBoundedTotals history = (tenant : List ℕ) → tenant_total history tenant < 2 ^ 63
+HasBoundedTotals history = (tenant : List ℕ) → tenant_total history tenant < total_bound
 
 -- the profiles of a tenant's first pushes whose time is in a closed window, in push order
 abbrev pub rows_of : List Push → List ℕ → ℕ → ℕ → ℕ → List Profile

@@ -5,4 +5,6 @@ pub mod TwinLemmas
 pub mod FaultLemmas
 pub mod TenantLemmas
 pub mod SoundLemmas
+pub mod SpelledLemmas
+pub mod EncodeLemmas
 pub mod WorkedRows

@@ -4,6 +4,7 @@
 //! its count before it.
 #![tactic(auto)]
 
+mod encode;
 mod fault;
 mod laws;
 mod object;

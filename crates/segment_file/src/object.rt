@@ -56,7 +56,10 @@ impl Object {
     }
 
     pub fn pushes(&self) -> &[Push]
-        ensures { result.now ≡ self.now.pushes }
+        ensures value { result.now ≡ self.now.pushes }
+        ensures some { self.now.pushes ≢ [] }
+        ensures within { self.now.lo + length self.now.pushes < 2 ^ 64 }
+        ensures fit { Fit (file_fields (file_of self.now.lo self.now.pushes)) }
     {
         &self.pushes
     }

@@ -7,4 +7,5 @@ pub mod TenantLemmas
 pub mod SoundLemmas
 pub mod SpelledLemmas
 pub mod EncodeLemmas
+pub mod PartLemmas
 pub mod WorkedRows

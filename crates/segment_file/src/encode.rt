@@ -14,6 +14,7 @@ ghost use Rattle.segment_file.specs.Decoded.{Spells};
 ghost use Rattle.segment_file.specs.Objects.{IsProfile, IsPush, IsWritten};
 
 use crate::Object;
+use crate::length::pushes_length;
 use profile_model::{LabelSet, Name, Profile, ProfileType, Push, Stack, StackSums};
 use std::alloc::{AllocError, Global};
 
@@ -22,11 +23,13 @@ impl Object {
     pub fn encode(&self, alloc: Global) -> Result<Vec<u8>, AllocError>
         ensures { IfOk result (λ bytes. Spells bytes.items self.now) }
     {
-        let mut bytes = Vec::new(alloc);
+        let pushes = self.pushes();
+        let length = pushes_length(pushes).saturating_add(20);
+        let mut bytes = Vec::with_capacity(alloc, length)?;
         bytes.extend_from_slice(MARK)?;
         put_number(&mut bytes, self.lo())?;
         put_number(&mut bytes, self.hi())?;
-        put_pushes(&mut bytes, self.pushes())?;
+        put_pushes(&mut bytes, pushes)?;
         Ok(bytes)
     }
 }

@@ -7,6 +7,7 @@
 mod encode;
 mod fault;
 mod laws;
+mod length;
 mod object;
 mod part;
 #[cfg(test)]

@@ -63,4 +63,13 @@ impl Object {
     {
         &self.pushes
     }
+
+    // The number of its first push, and its pushes. It takes no memory.
+    pub(crate) fn into_pushes(self) -> (u64, Vec<Push>)
+        ensures lo { result.0 ≡ self.lo }
+        ensures pushes { result.1.items ≡ self.pushes }
+        ensures within { self.lo + length self.pushes < 2 ^ 64 }
+    {
+        (self.lo, self.pushes)
+    }
 }

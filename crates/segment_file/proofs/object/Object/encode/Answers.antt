@@ -10,12 +10,12 @@ returns c =
     let object = c.args.self.now in
     record {
       whole = record {
-        some = c.pushes.ensures.some;
-        within = c.pushes.ensures.within;
-        each = subst (λ (l : List Push). All IsPush l) c.pushes.ensures.value c.in_ok-put_pushes.ensures.rules;
-        fit = c.pushes.ensures.fit;
+        some = c.pushes-pushes.ensures.some;
+        within = c.pushes-pushes.ensures.within;
+        each = subst (λ (l : List Push). All IsPush l) c.pushes-pushes.ensures.value c.in_ok-put_pushes.ensures.rules;
+        fit = c.pushes-pushes.ensures.fit;
       };
-      spelled = spelled_in_turn object.lo c.lo.result c.hi.result object.pushes c.pushes.result.now c.extend_from_slice.new.self.items c.put_number.new.out.items c.put_number-2.new.out.items c.put_pushes.new.out.items
-          (c.in_ok-extend_from_slice.ensures.items ∙ ap (λ (l : List ℕ). l ++ 80 ∷ 89 ∷ 79 ∷ 48 ∷ []) c.new-bytes.ensures.items) c.lo.ensures c.in_ok-put_number.ensures c.hi.ensures.hi
-          c.in_ok-put_number-2.ensures c.pushes.ensures.value c.in_ok-put_pushes.ensures.bytes;
+      spelled = spelled_in_turn object.lo c.lo.result c.hi.result object.pushes c.pushes-pushes.result.now c.extend_from_slice.new.self.items c.put_number.new.out.items c.put_number-2.new.out.items c.put_pushes.new.out.items
+          (c.in_ok-extend_from_slice.ensures.items ∙ ap (λ (l : List ℕ). l ++ 80 ∷ 89 ∷ 79 ∷ 48 ∷ []) c.in_ok-bytes.ensures.items) c.lo.ensures c.in_ok-put_number.ensures c.hi.ensures.hi
+          c.in_ok-put_number-2.ensures c.pushes-pushes.ensures.value c.in_ok-put_pushes.ensures.bytes;
     }

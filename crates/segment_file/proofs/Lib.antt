@@ -7,5 +7,6 @@ pub mod TenantLemmas
 pub mod SoundLemmas
 pub mod SpelledLemmas
 pub mod EncodeLemmas
+pub mod RoomLemmas
 pub mod PartLemmas
 pub mod WorkedRows

@@ -32,6 +32,12 @@ not_chosen : {A : Type 0} (b : Bool) (x : A) (rest : Option A) → cond b (Some 
 not_chosen true x rest is = absurd cc
 not_chosen false x rest is = refl
 
+-- at most 150 bytes
+pub tenant_few : (tenant : List ℕ) → wrong_place tenant ≡ None → length tenant ≤ 150
+tenant_few tenant is =
+    let parts = neither (position (λ b. not (is_tenant_byte b)) (take 150 tenant)) (if nat_lt 150 (length tenant) then Some 150 else (if is_dots tenant then Some 0 else None)) is in
+    ltb-false 150 (length tenant) (not_chosen (nat_lt 150 (length tenant)) 150 (if is_dots tenant then Some 0 else None) parts.1)
+
 pub tenant_utf8 : (tenant : List ℕ) → wrong_place tenant ≡ None → IsUtf8 tenant
 tenant_utf8 tenant is =
     let parts = neither (position (λ b. not (is_tenant_byte b)) (take 150 tenant)) (if nat_lt 150 (length tenant) then Some 150 else (if is_dots tenant then Some 0 else None)) is in

@@ -1,11 +1,13 @@
 -- What holds of all objects and their files.
-use Rattle.std.specs.Prelude.{◌≡◌, ℕ, List}
+use Rattle.std.specs.Prelude.{◌≡◌, ℕ, ◌+◌, ◌^◌, ◌<◌, ◌≤◌, List, length}
+use Rattle.std.specs.List.{All}
+use Rattle.profile_model.specs.Weights.{push_weight}
 use Rattle.profile_model.specs.declared.push.Push.{Push}
 use Rattle.segment_file.specs.declared.fault.ObjectRule.{ObjectRule}
 use Rattle.segment_file.specs.Decoded.{IsBroken, Spells}
 use Rattle.segment_file.specs.Files.{File, IsFile, file_fields}
-use Rattle.segment_file.specs.Fields.{AreSound, spelled}
-use Rattle.segment_file.specs.Objects.{IsObject, ObjectView, file_of}
+use Rattle.segment_file.specs.Fields.{AreSound, Fit, spelled}
+use Rattle.segment_file.specs.Objects.{IsObject, IsPush, ObjectView, file_of}
 
 -- two files with the same bytes say the same, whatever rules they break
 abbrev pub OneFile : Type 0
@@ -36,3 +38,10 @@ pub record IsSameFault (rule other : ObjectRule) (at place : ℕ) : Type 0 where
 -- bytes have one first fault
 abbrev pub OneFault : Type 0
 OneFault = (bytes : List ℕ) (rule other : ObjectRule) (at place : ℕ) → IsBroken bytes rule at → IsBroken bytes other place → IsSameFault rule other at place
+
+-- Pushes have room for their numbers and lengths where each weighs at most 268435456 and keeps the rules of its types,
+-- and there are fewer than 2^64 up to the last of them.
+abbrev pub LightPushesHaveRoom : Type 0
+LightPushesHaveRoom =
+    (lo : ℕ) (pushes : List Push) → lo + length pushes < 2 ^ 64 → All IsPush pushes → All (λ push. push_weight push ≤ 268435456) pushes
+    → Fit (file_fields (file_of lo pushes))

@@ -1,5 +1,5 @@
 //! What holds of the bytes of all objects.
-ghost use Rattle.segment_file.specs.Laws.{NoObjectIsBroken, NoSoundFileIsBroken, ObjectsAreSound, OneFault, OneFile, OneObject};
+ghost use Rattle.segment_file.specs.Laws.{LightPushesHaveRoom, NoObjectIsBroken, NoSoundFileIsBroken, ObjectsAreSound, OneFault, OneFile, OneObject};
 
 /// Bytes spell one object, and what spells an object has no fault. It does nothing: its clauses are the law.
 pub fn objects_have_one_spelling()
@@ -14,4 +14,9 @@ pub fn objects_have_one_spelling()
 pub fn bytes_have_one_fault()
     ensures one { OneFault }
     ensures none { NoSoundFileIsBroken }
+{}
+
+/// Pushes within their limit of weight have room in an object. It does nothing: its clause is the law.
+pub fn light_pushes_have_room()
+    ensures { LightPushesHaveRoom }
 {}

@@ -14,6 +14,6 @@ mod part;
 mod tests;
 
 pub use fault::{ObjectFault, ObjectRule};
-pub use laws::{bytes_have_one_fault, objects_have_one_spelling};
+pub use laws::{bytes_have_one_fault, light_pushes_have_room, objects_have_one_spelling};
 pub use object::Object;
 pub use part::{Part, Row};

@@ -4,7 +4,7 @@ use Rattle.std.specs.Option.{option_to_list}
 use Rattle.wire_proto.specs.declared.field.WireFault.{WireFault}
 use Rattle.wire_proto.specs.Message.{WireField, Message, empty, faulty, with_first}
 use Rattle.pprof_message.specs.declared.fault.MessageFault.{MessageFault}
-use Rattle.pprof_message.specs.declared.fault.MessageFault.TheVariants.{Broken, Memory}
+use Rattle.pprof_message.specs.declared.fault.MessageFault.TheVariants.{Broken}
 use Rattle.pprof_message.specs.declared.gathered.Head.{Head}
 use Rattle.pprof_message.specs.declared.gathered.Samples.{Samples}
 use Rattle.pprof_message.specs.Fields.{part_in, fields_in, packed, singular, repeated, messages}
@@ -16,14 +16,12 @@ use Rattle.pprof_message.specs.Broken.{place_of, broken_part}
 abbrev pub IsRead : {A : Type 0} → Option ℕ → (A → Type 0) → Result A MessageFault → Type 0
 IsRead broken P (Ok x) = (broken ≡ None) × P x
 IsRead broken P (Err (Broken at)) = broken ≡ Some at
-IsRead broken P (Err Memory) = Unit {0}
 
 -- what comes first in a message, of which `rest` is then left: a field, its end, or its fault's place
 abbrev pub TellsNext : Message → Message → Result (Option WireField) MessageFault → Type 0
 TellsNext message rest (Ok (Some f)) = message ≡ with_first f rest
 TellsNext message rest (Ok None) = message ≡ empty
 TellsNext message rest (Err (Broken at)) = (fault : WireFault) × (message ≡ faulty fault) × (place_of fault ≡ at)
-TellsNext message rest (Err Memory) = ⊥
 
 -- ---- one field, whatever its number
 

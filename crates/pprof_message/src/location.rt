@@ -1,5 +1,6 @@
 // Locations.
 ghost use Rattle.std.specs.Prelude.{◌≡◌, [], ◌∷◌, ◌++◌};
+ghost use Rattle.faults.specs.Answers.{IfAnswered};
 ghost use Rattle.pprof_message.specs.Fields.{fields_in};
 ghost use Rattle.pprof_message.specs.Messages.{line_of};
 ghost use Rattle.pprof_message.specs.Broken.{broken_part, no_part, in_location};
@@ -12,11 +13,15 @@ use crate::found::{Found, Part, next_found};
 use crate::gathered::{Head, Locations};
 use crate::numbers::{NO_NUMBERS, Numbers, keep_number, read_line};
 use crate::runs::Runs;
+use faults::Refused;
 
-pub(crate) fn read_location(part: &Part<'_>, locations: &mut Locations) -> Result<(), MessageFault>
-    ensures { IsRead (broken_part in_location part.now) (λ _.
+pub(crate) fn read_location(
+    part: &Part<'_>,
+    locations: &mut Locations,
+) -> Result<(), Refused<MessageFault>>
+    ensures { IfAnswered (IsRead (broken_part in_location part.now) (λ _.
         (locations.new.heads.items ≡ locations.old.heads.items ++ head_of (fields_in part.now) ∷ [])
-        × (locations.new.lines ≡ closed_run (lines_with locations.old.lines (fields_in part.now)))) result }
+        × (locations.new.lines ≡ closed_run (lines_with locations.old.lines (fields_in part.now))))) result }
 {
     let mut numbers = NO_NUMBERS;
     read_fields(part, &mut numbers, &mut locations.lines)?;
@@ -32,9 +37,9 @@ fn read_fields(
     part: &Part<'_>,
     numbers: &mut Numbers,
     lines: &mut Runs<u64>,
-) -> Result<(), MessageFault>
-    ensures { IsRead (broken_part in_location part.now) (λ _.
-        (numbers.new ≡ last_numbers numbers.old (fields_in part.now)) × (lines.new ≡ lines_with lines.old (fields_in part.now))) result }
+) -> Result<(), Refused<MessageFault>>
+    ensures { IfAnswered (IsRead (broken_part in_location part.now) (λ _.
+        (numbers.new ≡ last_numbers numbers.old (fields_in part.now)) × (lines.new ≡ lines_with lines.old (fields_in part.now)))) result }
 {
     let mut fields = part.fields();
     while let Some(found) = next_found(&mut fields)? {
@@ -46,8 +51,8 @@ fn read_fields(
     Ok(())
 }
 
-fn take_line(found: &Found<'_>, lines: &mut Runs<u64>) -> Result<(), MessageFault>
-    ensures { IsRead (broken_held no_part found.now) (λ _. lines.new ≡ begun_with lines.old (held line_of found.now)) result }
+fn take_line(found: &Found<'_>, lines: &mut Runs<u64>) -> Result<(), Refused<MessageFault>>
+    ensures { IfAnswered (IsRead (broken_held no_part found.now) (λ _. lines.new ≡ begun_with lines.old (held line_of found.now))) result }
 {
     if let Some(part) = found.part() {
         let line = read_line(&part)?;

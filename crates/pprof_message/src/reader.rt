@@ -2,6 +2,7 @@
 ghost use Rattle.std.specs.Prelude.{◌≡◌, ℕ, [], ◌∷◌, ◌++◌, map, Some, None, IsErr};
 ghost use Rattle.std.specs.Option.{option_to_list};
 ghost use Rattle.std.specs.List.{flat_map};
+ghost use Rattle.faults.specs.Answers.{IfAnswered};
 ghost use Rattle.pprof_message.specs.Fields.{number_in, part_in, last_of, fields_in};
 ghost use Rattle.pprof_message.specs.Messages.{value_type_of, function_of};
 ghost use Rattle.pprof_message.specs.Broken.{broken_part, broken_place, no_part, in_sample, in_location, in_pprof};
@@ -18,12 +19,13 @@ use crate::location::read_location;
 use crate::message::PprofMessage;
 use crate::numbers::{Numbers, read_function, read_numbers, read_value_type};
 use crate::sample::read_sample;
+use faults::Refused;
 use std::alloc::Global;
 
 /// The message of a profile, as these bytes spell it. The fault is the first in the order of the bytes,
 /// the fields of an inner message where it stands.
-pub fn read_message(alloc: Global, bytes: &[u8]) -> Result<PprofMessage<'_>, MessageFault>
-    ensures read { IsReadMessage bytes.now result }
+pub fn read_message(alloc: Global, bytes: &[u8]) -> Result<PprofMessage<'_>, Refused<MessageFault>>
+    ensures read { IfAnswered (IsReadMessage bytes.now) result }
     ensures refused { (at : ℕ) → broken_place bytes.now ≡ Some at → IsErr result }
 {
     let mut gathered = Gathered::new(alloc);
@@ -31,8 +33,11 @@ pub fn read_message(alloc: Global, bytes: &[u8]) -> Result<PprofMessage<'_>, Mes
     Ok(PprofMessage::new(gathered))
 }
 
-fn read_fields<'a>(part: &Part<'a>, gathered: &mut Gathered<'a>) -> Result<(), MessageFault>
-    ensures { IsRead (broken_part in_pprof part.now) (λ _. kept gathered.new ≡ kept_with (kept gathered.old) (fields_in part.now)) result }
+fn read_fields<'a>(
+    part: &Part<'a>,
+    gathered: &mut Gathered<'a>,
+) -> Result<(), Refused<MessageFault>>
+    ensures { IfAnswered (IsRead (broken_part in_pprof part.now) (λ _. kept gathered.new ≡ kept_with (kept gathered.old) (fields_in part.now))) result }
 {
     let mut fields = part.fields();
     while let Some(found) = next_found(&mut fields)? {
@@ -41,8 +46,11 @@ fn read_fields<'a>(part: &Part<'a>, gathered: &mut Gathered<'a>) -> Result<(), M
     Ok(())
 }
 
-fn take_field<'a>(found: &Found<'a>, gathered: &mut Gathered<'a>) -> Result<(), MessageFault>
-    ensures { IsRead (in_pprof found.now) (λ _. kept gathered.new ≡ kept_with (kept gathered.old) (found.now ∷ [])) result }
+fn take_field<'a>(
+    found: &Found<'a>,
+    gathered: &mut Gathered<'a>,
+) -> Result<(), Refused<MessageFault>>
+    ensures { IfAnswered (IsRead (in_pprof found.now) (λ _. kept gathered.new ≡ kept_with (kept gathered.old) (found.now ∷ []))) result }
 {
     match found.number() {
         1 => take_value_type(found, &mut gathered.sample_types),
@@ -54,13 +62,19 @@ fn take_field<'a>(found: &Found<'a>, gathered: &mut Gathered<'a>) -> Result<(), 
             take_number(found, &mut gathered.time_nanos);
             Ok(())
         }
-        11 => take_numbers(found, &mut gathered.period_type),
+        11 => {
+            take_numbers(found, &mut gathered.period_type)?;
+            Ok(())
+        }
         _ => Ok(()),
     }
 }
 
-fn take_value_type(found: &Found<'_>, types: &mut Vec<ValueType>) -> Result<(), MessageFault>
-    ensures { IsRead (broken_held no_part found.now) (λ _. types.new.items ≡ types.old.items ++ held value_type_of found.now) result }
+fn take_value_type(
+    found: &Found<'_>,
+    types: &mut Vec<ValueType>,
+) -> Result<(), Refused<MessageFault>>
+    ensures { IfAnswered (IsRead (broken_held no_part found.now) (λ _. types.new.items ≡ types.old.items ++ held value_type_of found.now)) result }
 {
     if let Some(part) = found.part() {
         let value_type = read_value_type(&part)?;
@@ -69,8 +83,11 @@ fn take_value_type(found: &Found<'_>, types: &mut Vec<ValueType>) -> Result<(), 
     Ok(())
 }
 
-fn take_function(found: &Found<'_>, functions: &mut Vec<Function>) -> Result<(), MessageFault>
-    ensures { IsRead (broken_held no_part found.now) (λ _. functions.new.items ≡ functions.old.items ++ held function_of found.now) result }
+fn take_function(
+    found: &Found<'_>,
+    functions: &mut Vec<Function>,
+) -> Result<(), Refused<MessageFault>>
+    ensures { IfAnswered (IsRead (broken_held no_part found.now) (λ _. functions.new.items ≡ functions.old.items ++ held function_of found.now)) result }
 {
     if let Some(part) = found.part() {
         let function = read_function(&part)?;
@@ -79,9 +96,9 @@ fn take_function(found: &Found<'_>, functions: &mut Vec<Function>) -> Result<(),
     Ok(())
 }
 
-fn take_sample(found: &Found<'_>, samples: &mut Samples) -> Result<(), MessageFault>
-    ensures { IsRead (broken_held in_sample found.now)
-        (λ _. samples.new ≡ samples_after samples.old (option_to_list (part_in found.now.end found.now.value))) result }
+fn take_sample(found: &Found<'_>, samples: &mut Samples) -> Result<(), Refused<MessageFault>>
+    ensures { IfAnswered (IsRead (broken_held in_sample found.now)
+        (λ _. samples.new ≡ samples_after samples.old (option_to_list (part_in found.now.end found.now.value)))) result }
 {
     match found.part() {
         Some(part) => read_sample(&part, samples),
@@ -89,10 +106,10 @@ fn take_sample(found: &Found<'_>, samples: &mut Samples) -> Result<(), MessageFa
     }
 }
 
-fn take_location(found: &Found<'_>, locations: &mut Locations) -> Result<(), MessageFault>
-    ensures { IsRead (broken_held in_location found.now)
+fn take_location(found: &Found<'_>, locations: &mut Locations) -> Result<(), Refused<MessageFault>>
+    ensures { IfAnswered (IsRead (broken_held in_location found.now)
         (λ _. (locations.new.heads.items ≡ locations.old.heads.items ++ held head_of found.now)
-        × (locations.new.lines ≡ lines_after locations.old.lines (option_to_list (part_in found.now.end found.now.value)))) result }
+        × (locations.new.lines ≡ lines_after locations.old.lines (option_to_list (part_in found.now.end found.now.value))))) result }
 {
     match found.part() {
         Some(part) => read_location(&part, locations),
@@ -100,9 +117,9 @@ fn take_location(found: &Found<'_>, locations: &mut Locations) -> Result<(), Mes
     }
 }
 
-fn take_text<'a>(found: &Found<'a>, texts: &mut Vec<&'a [u8]>) -> Result<(), MessageFault>
-    ensures { IsRead None (λ _. map (λ text. text.now) texts.new.items
-        ≡ map (λ text. text.now) texts.old.items ++ map (λ part. part.bytes) (option_to_list (part_in found.now.end found.now.value))) result }
+fn take_text<'a>(found: &Found<'a>, texts: &mut Vec<&'a [u8]>) -> Result<(), Refused<MessageFault>>
+    ensures { IfAnswered (IsRead None (λ _. map (λ text. text.now) texts.new.items
+        ≡ map (λ text. text.now) texts.old.items ++ map (λ part. part.bytes) (option_to_list (part_in found.now.end found.now.value)))) result }
 {
     if let Some(part) = found.part() {
         texts.push(part.bytes())?;

@@ -1,5 +1,6 @@
 // Repeated numbers, which stand in fields of their own or packed in one.
 ghost use Rattle.std.specs.Prelude.{◌≡◌, ℕ, map, None, Some, if◌then◌else◌};
+ghost use Rattle.faults.specs.Answers.{IfAnswered};
 ghost use Rattle.pprof_message.specs.Fields.{packed, numbers_in};
 ghost use Rattle.pprof_message.specs.Messages.{int64};
 ghost use Rattle.pprof_message.specs.Runs.{begun_with};
@@ -8,6 +9,7 @@ ghost use Rattle.pprof_message.specs.Readers.{IsRead, broken_packed};
 use crate::fault::MessageFault;
 use crate::found::Found;
 use crate::runs::Runs;
+use faults::Refused;
 use wire_proto::read_varint;
 
 // A number as a varint spells it.
@@ -38,8 +40,8 @@ impl Number for i64 {
 pub(crate) fn read_repeated<T: Number>(
     found: &Found<'_>,
     runs: &mut Runs<T>,
-) -> Result<(), MessageFault>
-    ensures { IsRead (broken_packed found.now) (λ _. runs.new ≡ begun_with runs.old (map T.of_varint (numbers_in found.now.value))) result }
+) -> Result<(), Refused<MessageFault>>
+    ensures { IfAnswered (IsRead (broken_packed found.now) (λ _. runs.new ≡ begun_with runs.old (map T.of_varint (numbers_in found.now.value)))) result }
 {
     if let Some(varint) = found.varint() {
         runs.push(T::from_varint(varint))?;
@@ -52,9 +54,13 @@ pub(crate) fn read_repeated<T: Number>(
 }
 
 // A number that can't be read has the place of the field.
-fn read_packed<T: Number>(bytes: &[u8], at: u64, runs: &mut Runs<T>) -> Result<(), MessageFault>
-    ensures { IsRead (if (packed bytes.now).is_whole then None else Some at)
-        (λ _. runs.new ≡ begun_with runs.old (map T.of_varint (packed bytes.now).numbers)) result }
+fn read_packed<T: Number>(
+    bytes: &[u8],
+    at: u64,
+    runs: &mut Runs<T>,
+) -> Result<(), Refused<MessageFault>>
+    ensures { IfAnswered (IsRead (if (packed bytes.now).is_whole then None else Some at)
+        (λ _. runs.new ≡ begun_with runs.old (map T.of_varint (packed bytes.now).numbers))) result }
 {
     let mut rest = bytes;
     while !rest.is_empty() {
@@ -63,7 +69,7 @@ fn read_packed<T: Number>(bytes: &[u8], at: u64, runs: &mut Runs<T>) -> Result<(
                 runs.push(T::from_varint(varint))?;
                 rest = more;
             }
-            Err(_) => return Err(MessageFault::Broken(at)),
+            Err(_) => return Err(Refused::Fault(MessageFault::Broken(at))),
         }
     }
     Ok(())

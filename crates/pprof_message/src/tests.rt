@@ -1,4 +1,5 @@
 use super::*;
+use faults::Refused;
 use std::alloc::Global;
 use std::test::Fail;
 
@@ -162,7 +163,7 @@ fn no_bytes_are_a_message_of_nothing(rt: HostRuntime) -> Result<(), Fail> {
     Ok(())
 }
 
-fn fault_of(alloc: Global, bytes: &[u8]) -> Option<MessageFault> {
+fn fault_of(alloc: Global, bytes: &[u8]) -> Option<Refused<MessageFault>> {
     read_message(alloc, bytes).err()
 }
 
@@ -201,7 +202,7 @@ fn the_first_field_that_cannot_be_read_is_told(rt: HostRuntime) {
     for (bytes, at) in cases {
         assert_eq!(rt;
             fault_of(rt.alloc(), bytes),
-            Some(MessageFault::Broken(at)),
+            Some(Refused::Fault(MessageFault::Broken(at))),
             "{bytes:?}"
         );
     }
@@ -367,8 +368,8 @@ fn each_sample_and_location_keeps_its_own_lists(rt: HostRuntime) -> Result<(), F
     Ok(())
 }
 
-fn is_told_as(alloc: Global, fault: MessageFault, expected: &str) -> Result<bool, Fail> {
-    let text = fault.to_string(alloc)?;
+fn is_told_as(alloc: Global, refused: Refused<MessageFault>, expected: &str) -> Result<bool, Fail> {
+    let text = refused.to_string(alloc)?;
     Ok(text.as_str() == expected)
 }
 
@@ -376,8 +377,8 @@ fn is_told_as(alloc: Global, fault: MessageFault, expected: &str) -> Result<bool
 fn a_fault_is_told_in_words(rt: HostRuntime) -> Result<(), Fail> {
     let alloc = rt.alloc();
     let broken = "the field at byte 7 can't be read";
-    assert!(rt; is_told_as(alloc, MessageFault::Broken(7), broken)?);
-    assert!(rt; is_told_as(alloc, MessageFault::Memory, "out of memory")?);
+    assert!(rt; is_told_as(alloc, Refused::Fault(MessageFault::Broken(7)), broken)?);
+    assert!(rt; is_told_as(alloc, Refused::Memory, "out of memory")?);
     Ok(())
 }
 

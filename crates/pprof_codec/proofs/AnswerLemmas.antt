@@ -1,5 +1,5 @@
 -- Bytes have one answer.
-use Rattle.std.proofs.Common.{◌≡◌, ◌≢◌, ◌⊎◌, ⊎_elim, ℕ, List, [], ◌∷◌, get_or, map, Some, Result, Ok, Err, refl, sym, ap, ◌∙◌}
+use Rattle.std.proofs.Common.{◌≡◌, ◌⊎◌, ⊎_elim, ℕ, List, [], ◌∷◌, get_or, map, Some, Result, Ok, Err, refl, sym, ap, ◌∙◌}
 use Rattle.std.specs.Prelude.{Vec}
 use Rattle.std.proofs.Props.{props}
 use Rattle.std.proofs.lemmas.Option.{none-some}
@@ -14,9 +14,9 @@ use Rattle.pprof_message.specs.declared.fault.MessageFault.TheVariants as messag
 use Rattle.pprof_message.proofs.ReadingLaw.{one_reading}
 use Rattle.pprof_codec.specs.declared.base.Base.{Base}
 use Rattle.pprof_codec.specs.declared.fault.PprofFault.{PprofFault}
-use Rattle.pprof_codec.specs.declared.fault.PprofFault.TheVariants.{Broken, Memory}
+use Rattle.pprof_codec.specs.declared.fault.PprofFault.TheVariants.{Broken}
 use Rattle.pprof_codec.specs.Checks.{faults_of, first_of}
-use Rattle.pprof_codec.specs.Laws.{AreSameAnswers}
+use Rattle.pprof_codec.specs.Laws.{told}
 use Rattle.pprof_codec.specs.Profiles.{Held, held_of, profiles_of}
 use Rattle.pprof_codec.specs.Read.{AreProfilesOf, IsBroken, IsFirstFault, IsMessageFault, IsReadPprof}
 use mathlib.Core.HLevel.{is_prop→PathP}
@@ -75,15 +75,15 @@ base_once base other labels name time =
 module _ (bytes : List ℕ) where
   spelled_once : (pprof other : Pprof) → IsReadMessage bytes (Ok pprof) → IsReadMessage bytes (Ok other) → pprof ≡ other
   spelled_once pprof other h k =
-      let same : Ok pprof ≡ Ok other = one_reading bytes (Ok pprof) (Ok other) h k (λ none. cc) (λ none. cc) in cc
+      let same : Ok pprof ≡ Ok other = one_reading bytes (Ok pprof) (Ok other) h k in cc
 
   place_once : (at other : ℕ) → IsReadMessage bytes (Err (message.Broken at)) → IsReadMessage bytes (Err (message.Broken other)) → at ≡ other
   place_once at other h k =
-      let same = one_reading bytes (Err (message.Broken at)) (Err (message.Broken other)) h k (λ none. cc) (λ none. cc) in cc
+      let same = one_reading bytes (Err (message.Broken at)) (Err (message.Broken other)) h k in cc
 
   spelled_not_broken : (pprof : Pprof) (at : ℕ) → IsReadMessage bytes (Ok pprof) → IsReadMessage bytes (Err (message.Broken at)) → ⊥
   spelled_not_broken pprof at h k =
-      let same = one_reading bytes (Ok pprof) (Err (message.Broken at)) h k (λ none. cc) (λ none. cc) in cc
+      let same = one_reading bytes (Ok pprof) (Err (message.Broken at)) h k in cc
 
 -- ---- the parts of an answer
 
@@ -128,18 +128,9 @@ module _ (base : Base) (bytes : List ℕ) where
 
 -- ---- the answer
 
-fault_read : (Z : Type 0) (base : Base) (bytes : List ℕ) (fault : PprofFault) → fault ≢ Memory → IsReadPprof {Z = Z} base bytes (Err fault)
-    → IsFirstFault base bytes fault
-fault_read Z base bytes Memory answered h = absurd (answered refl)
-fault_read Z base bytes fault answered h = h
-
 pub one_answer : {Z : Type 0} (base : Base) (bytes : List ℕ) (first second : Result (Vec Profile Z) PprofFault)
-    → IsReadPprof base bytes first → IsReadPprof base bytes second → AreSameAnswers first second
-one_answer {Z} base bytes (Ok profiles) (Ok others) h k answered answered' = ap Ok (profiles_once base bytes profiles.items others.items h k)
-one_answer {Z} base bytes (Ok profiles) (Err fault) h k answered answered' =
-    absurd (profiles_not_fault base bytes profiles.items fault h (fault_read Z base bytes fault (λ none. answered' (ap Err none)) k))
-one_answer {Z} base bytes (Err fault) (Ok profiles) h k answered answered' =
-    absurd (profiles_not_fault base bytes profiles.items fault k (fault_read Z base bytes fault (λ none. answered (ap Err none)) h))
-one_answer {Z} base bytes (Err fault) (Err other) h k answered answered' =
-    ap Err (fault_once base bytes fault other (fault_read Z base bytes fault (λ none. answered (ap Err none)) h)
-    (fault_read Z base bytes other (λ none. answered' (ap Err none)) k))
+    → IsReadPprof base bytes first → IsReadPprof base bytes second → told first ≡ told second
+one_answer base bytes (Ok profiles) (Ok others) h k = ap Ok (profiles_once base bytes profiles.items others.items h k)
+one_answer base bytes (Ok profiles) (Err fault) h k = absurd (profiles_not_fault base bytes profiles.items fault h k)
+one_answer base bytes (Err fault) (Ok profiles) h k = absurd (profiles_not_fault base bytes profiles.items fault k h)
+one_answer base bytes (Err fault) (Err other) h k = ap Err (fault_once base bytes fault other h k)

@@ -1,14 +1,12 @@
 -- Lists of faults, and the first of each.
-use Rattle.std.proofs.Common.{◌≡◌, ℕ, zero, suc, ◌+◌, ◌<◌, ◌≤◌, List, [], ◌∷◌, ◌++◌, length, get_or, take, drop, Bool, true, false, cond, Option, Some, None, Err, refl, sym, ap, ◌∙◌, arith, add-one, append_assoc}
+use Rattle.std.proofs.Common.{◌≡◌, ℕ, zero, suc, ◌+◌, ◌<◌, ◌≤◌, List, [], ◌∷◌, ◌++◌, length, get_or, take, drop, Bool, true, false, cond, Option, Some, None, refl, sym, ap, ◌∙◌, arith, add-one, append_assoc}
 use Rattle.std.specs.Prelude.{nat_lt, not, map, option_map, position, slice_get}
 use Rattle.std.specs.List.{enumerate_from, flat_map, position_or_len}
 use Rattle.std.proofs.lemmas.Bool.{lt-ltb}
 use Rattle.std.proofs.lemmas.Bool.Decides.{nat_tests}
 use Rattle.std.proofs.lemmas.List.{take_all, take_more, get_or-map, length-map, append-nil}
 use Rattle.pprof_codec.specs.declared.fault.PprofFault.{PprofFault}
-use Rattle.pprof_codec.specs.declared.fault.PprofFault.TheVariants.{Memory}
 use Rattle.pprof_codec.specs.Checks.{fault_if, faults_of_each, first_of}
-use Rattle.pprof_codec.specs.Tables.{Judges}
 
 -- ---- the first fault
 
@@ -34,18 +32,6 @@ only-found found fault is = ap (λ b. first_of (fault_if b fault)) is
 
 pub only-passed : (found : Bool) (fault : PprofFault) → found ≡ false → first_of (fault_if found fault) ≡ None
 only-passed found fault is = ap (λ b. first_of (fault_if b fault)) is
-
--- ---- a part that was judged
-
-pub judged-err : {T : Type 0} (P : T → Type 0) (faults : List PprofFault) (fault : PprofFault) → first_of faults ≡ Some fault → Judges (Err fault) faults P
-judged-err P faults Memory h = tt
-judged-err P faults fault h = h
-
--- the fault of a part is the fault of the whole
-pub judged-along : {T U : Type 0} (P : T → Type 0) (Q : U → Type 0) (part whole : List PprofFault) (fault : PprofFault)
-    → (first_of part ≡ Some fault → first_of whole ≡ Some fault) → Judges {T = T} (Err fault) part P → Judges {T = U} (Err fault) whole Q
-judged-along P Q part whole Memory along h = tt
-judged-along P Q part whole fault along h = along h
 
 -- ---- the faults of each member
 

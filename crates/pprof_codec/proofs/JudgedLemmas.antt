@@ -1,12 +1,14 @@
 -- The faults of the checks, one list after another.
 use Rattle.std.proofs.Common.{◌≡◌, List, [], ◌∷◌, ◌++◌, Some, Result, Ok, Err, refl, ap, ◌∙◌}
+use Rattle.faults.specs.Answers.{IfFault}
+use Rattle.faults.specs.declared.refused.Refused.{Refused}
+use Rattle.faults.proofs.AnswerLemmas.{IfFault-weaker}
 use Rattle.pprof_message.specs.Pprof.{Pprof}
 use Rattle.pprof_codec.specs.declared.base.Base.{Base}
 use Rattle.pprof_codec.specs.declared.fault.PprofFault.{PprofFault}
-use Rattle.pprof_codec.specs.declared.fault.PprofFault.TheVariants.{Memory}
 use Rattle.pprof_codec.specs.Checks.{first_of, first_text_faults, text_faults, type_faults, faults_to_types, function_faults, location_faults, place_faults, sample_faults, total_faults, value_faults, judged_faults, weight_faults, faults_of}
 use Rattle.std.specs.Option.{option_or}
-use Rattle.pprof_codec.specs.Tables.{Judges}
+use Rattle.pprof_codec.specs.Tables.{IsFirst, Judges}
 use Rattle.pprof_codec.proofs.FaultLemmas.{first-here, first-after}
 use Rattle.pprof_codec.proofs.StackLemmas.{no-parts}
 
@@ -24,16 +26,14 @@ pub leads-after : (xs ys whole : List PprofFault) → xs ≡ [] → Leads (xs ++
 leads-after xs ys whole none all fault h = all fault (first-after xs ys none ∙ h)
 
 -- a part was judged, and with it the whole
-pub judged-part : {T U : Type 0} (P : T → Type 0) (Q : U → Type 0) (part whole : List PprofFault) (fault : PprofFault)
-    → Leads part whole → Judges {T = T} (Err fault) part P → Judges {T = U} (Err fault) whole Q
-judged-part P Q part whole Memory along h = tt
-judged-part P Q part whole fault along h = along fault h
+pub judged-part : (part whole : List PprofFault) (refused : Refused PprofFault) → Leads part whole → IfFault (IsFirst part) refused → IfFault (IsFirst whole) refused
+judged-part part whole refused along h = IfFault-weaker {P = IsFirst part} {Q = IsFirst whole} refused along h
 
 -- the last part was judged, and with it the whole
-pub judged-last : {T : Type 0} (P : T → Type 0) (part whole : List PprofFault) (result : Result T PprofFault)
+pub judged-last : {T : Type 0} (P : T → Type 0) (part whole : List PprofFault) (result : Result T (Refused PprofFault))
     → Leads part whole → (part ≡ [] → whole ≡ []) → Judges result part P → Judges result whole P
 judged-last P part whole (Ok x) along none h = (none h.0, h.1)
-judged-last P part whole (Err fault) along none h = judged-part P P part whole fault along h
+judged-last P part whole (Err refused) along none h = judged-part part whole refused along h
 
 pub both-none : (xs ys : List PprofFault) → xs ≡ [] → ys ≡ [] → xs ++ ys ≡ []
 both-none xs ys x y = ap (λ zs. zs ++ ys) x ∙ y

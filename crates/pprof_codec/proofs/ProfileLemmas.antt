@@ -1,5 +1,5 @@
 -- What each profile weighs, and all of them.
-use Rattle.std.proofs.Common.{◌≡◌, ⊎_elim, ℕ, suc, ◌+◌, ◌-◌, ◌^◌, ◌<◌, ◌≤◌, min, List, [], ◌∷◌, ◌++◌, length, get_or, take, drop, Bool, true, false, Some, Err, refl, sym, ap, ◌∙◌, arith}
+use Rattle.std.proofs.Common.{◌≡◌, ⊎_elim, ℕ, suc, ◌+◌, ◌-◌, ◌^◌, ◌<◌, ◌≤◌, min, List, [], ◌∷◌, ◌++◌, length, get_or, take, drop, Bool, true, false, Some, refl, sym, ap, ◌∙◌, arith}
 use Rattle.std.specs.Prelude.{◌||◌, map, nat_lt, sum_by}
 use Rattle.std.specs.List.{enumerate_from, range_with_len, drop-map}
 use Rattle.std.proofs.Math.Nat.{min-le_left, min-eq_left, le-min}
@@ -8,6 +8,9 @@ use Rattle.std.proofs.lemmas.List.{take_all, take-append-drop, length-map, map-a
 use Rattle.std.proofs.lemmas.List.FromFn.{length-enumerate_from, get_or-enumerate_from, get_or-map-range_with_len, length-map-range_with_len}
 use Rattle.std.proofs.Math.Seq.{drop-cons}
 use Rattle.std.proofs.lemmas.List.Sums.{sum_by-cons, sum_by-append}
+use Rattle.faults.specs.Answers.{IfFault}
+use Rattle.faults.specs.declared.refused.Refused.{Refused}
+use Rattle.faults.proofs.AnswerLemmas.{IfFault-weaker}
 use Rattle.profile_model.specs.LabelSets.{Label}
 use Rattle.profile_model.specs.Sums as sums
 use Rattle.profile_model.specs.Weights.{label_weight}
@@ -16,10 +19,10 @@ use Rattle.pprof_message.specs.declared.lists.ValueType.{ValueType}
 use Rattle.pprof_message.specs.Pprof.{Pprof}
 use Rattle.pprof_codec.specs.declared.base.Base.{Base}
 use Rattle.pprof_codec.specs.declared.fault.PprofFault.{PprofFault}
-use Rattle.pprof_codec.specs.declared.fault.PprofFault.TheVariants.{Memory, Weight}
+use Rattle.pprof_codec.specs.declared.fault.PprofFault.TheVariants.{Weight}
 use Rattle.pprof_codec.specs.Profiles.{Held, held_of, held_weight, parts_of, profile_of, profiles_of, samples_of, stacks_weight, time_of, weight_of}
 use Rattle.pprof_codec.specs.Checks.{fault_if, first_of, weight_faults}
-use Rattle.pprof_codec.specs.Tables.{Judges, TakesRoom, all_sums, sums_weight}
+use Rattle.pprof_codec.specs.Tables.{IsFirst, IsShort, all_sums, sums_weight}
 use Rattle.pprof_codec.proofs.FaultLemmas.{only-found, shown-push}
 
 -- ---- one profile
@@ -115,11 +118,10 @@ light-enough base pprof few light =
     (λ k. fault_if (le-ltb 4096 (length pprof.sample_types) few k || le-ltb 268435456 (sum_by held_weight (profiles_of base pprof)) light k) Weight)
 
 -- where a profile has no room, all are too heavy
-pub no-room : {T U : Type 0} (P : T → Type 0) (Q : U → Type 0) (fault : PprofFault) (before after weight : ℕ) (faults : List PprofFault)
-    → (before < weight → first_of faults ≡ Some Weight) → TakesRoom {T = T} (Err fault) before after weight P → Judges {T = U} (Err fault) faults Q
-no-room P Q Memory before after weight faults along h = tt
-no-room P Q Weight before after weight faults along h = along h
-no-room P Q fault before after weight faults along h = absurd h
+no-room : (refused : Refused PprofFault) (before weight : ℕ) (faults : List PprofFault) → (before < weight → first_of faults ≡ Some Weight) → IfFault (IsShort before weight) refused
+    → IfFault (IsFirst faults) refused
+no-room refused before weight faults along h =
+    IfFault-weaker {P = IsShort before weight} {Q = IsFirst faults} refused (λ fault short. along short.1 ∙ ap Some (sym short.0)) h
 
 module _ (base : Base) (pprof : Pprof) (kinds : List ValueType) (number : ℕ) (d : ValueType) (room after : ℕ) where
   pub room-left : (rest : ℕ) → kinds ≡ pprof.sample_types → number < length kinds
@@ -132,19 +134,19 @@ module _ (base : Base) (pprof : Pprof) (kinds : List ValueType) (number : ℕ) (
       let more = weight-push (take number (profiles_of base pprof)) (profile_of base pprof number (get_or kinds number d)) in
       omega arith
 
-  pub profile-no_room : {T U : Type 0} (P : T → Type 0) (Q : U → Type 0) (fault : PprofFault) (rest : ℕ)
+  pub profile-no_room : (refused : Refused PprofFault) (rest : ℕ)
       → kinds ≡ pprof.sample_types → number < length kinds → rest ≤ sum_by held_weight (drop (number + 1) (profiles_of base pprof))
       → room + rest + sum_by held_weight (take number (profiles_of base pprof)) ≡ 268435456
-      → TakesRoom {T = T} (Err fault) room after (held_weight (profile_of base pprof number (get_or kinds number d))) P
-      → Judges {T = U} (Err fault) (weight_faults base pprof) Q
-  profile-no_room P Q fault rest own short light before refused =
+      → IfFault (IsShort room (held_weight (profile_of base pprof number (get_or kinds number d)))) refused
+      → IfFault (IsFirst (weight_faults base pprof)) refused
+  profile-no_room refused rest own short light before h =
       let next = profiles-more base pprof kinds (take number (profiles_of base pprof)) (profile_of base pprof number (get_or kinds number d)) number d own short refl refl in
       let weighed = ap (sum_by held_weight) next in
       let more = weight-push (take number (profiles_of base pprof)) (profile_of base pprof number (get_or kinds number d)) in
       let whole = ap (sum_by held_weight) (take-append-drop (number + 1) (profiles_of base pprof)) in
       let parts = sum_by-append held_weight (take (number + 1) (profiles_of base pprof)) (drop (number + 1) (profiles_of base pprof)) in
-      no-room P Q fault room after (held_weight (profile_of base pprof number (get_or kinds number d))) (weight_faults base pprof)
-      (λ less. too-heavy base pprof (omega arith)) refused
+      no-room refused room (held_weight (profile_of base pprof number (get_or kinds number d))) (weight_faults base pprof)
+      (λ less. too-heavy base pprof (omega arith)) h
 
 -- ---- the sums that are left
 
@@ -179,11 +181,11 @@ rest-light base pprof n =
     let e = ap sums_weight (ap (drop n) (sums-held base pprof) ∙ drop-map values_in n (profiles_of base pprof)) in
     let light = held-light (drop n (profiles_of base pprof)) in omega arith
 
-pub sums-heavy : {T U : Type 0} (P : T → Type 0) (Q : U → Type 0) (base : Base) (pprof : Pprof) (fault : PprofFault) (after : ℕ)
-    → TakesRoom {T = T} (Err fault) 268435456 after (sums_weight (all_sums pprof)) P → Judges {T = U} (Err fault) (weight_faults base pprof) Q
-sums-heavy P Q base pprof fault after refused =
+pub sums-heavy : (base : Base) (pprof : Pprof) (refused : Refused PprofFault) → IfFault (IsShort 268435456 (sums_weight (all_sums pprof))) refused
+    → IfFault (IsFirst (weight_faults base pprof)) refused
+sums-heavy base pprof refused h =
     let light = rest-light base pprof 0 in
-    no-room P Q fault 268435456 after (sums_weight (all_sums pprof)) (weight_faults base pprof) (λ less. too-heavy base pprof (omega arith)) refused
+    no-room refused 268435456 (sums_weight (all_sums pprof)) (weight_faults base pprof) (λ less. too-heavy base pprof (omega arith)) h
 
 pub sums-length : (pprof : Pprof) → length (all_sums pprof) ≡ length pprof.sample_types
 unfolding all_sums

@@ -1,16 +1,18 @@
 -- From judged parts to what reading a pprof answers.
 use Rattle.std.proofs.Common.{◌≡◌, inr, ℕ, Bool, true, false, List, [], Result, Ok, Err, sym, ◌∙◌}
 use Rattle.std.specs.Prelude.{map, IsTrue, Vec}
+use Rattle.faults.specs.Answers.{IfAnswered, IfFault}
+use Rattle.faults.specs.declared.refused.Refused.{Refused}
+use Rattle.faults.specs.declared.refused.Refused.TheVariants.{Fault, Memory}
 use Rattle.profile_model.specs.declared.profile.Profile.{Profile}
 use Rattle.pprof_message.specs.Pprof.{Pprof}
 use Rattle.pprof_message.specs.Read.{IsReadMessage}
 use Rattle.pprof_codec.specs.declared.base.Base.{Base}
 use Rattle.pprof_codec.specs.declared.fault.PprofFault.{PprofFault}
-use Rattle.pprof_codec.specs.declared.fault.PprofFault.TheVariants.{Memory}
 use Rattle.pprof_codec.specs.Profiles.{held_of, profiles_of}
 use Rattle.pprof_codec.specs.Checks.{judged_faults, weight_faults, faults_of}
 use Rattle.pprof_codec.specs.Read.{IsGzip, IsReadPprof}
-use Rattle.pprof_codec.specs.Tables.{Judges}
+use Rattle.pprof_codec.specs.Tables.{IsFirst, Judges}
 use Rattle.pprof_codec.proofs.JudgedLemmas.{Leads, weight-leads, faults-none}
 
 pub not-begun : (b c : Bool) → b ≡ c → b ≡ false → ¬ (IsTrue c)
@@ -18,16 +20,16 @@ not-begun b c same fails begins = let differ : true ≡ false = sym begins ∙ s
 
 module _ (base : Base) (bytes : List ℕ) (pprof : Pprof) (plain : ¬ (IsGzip bytes)) (spelled : IsReadMessage bytes (Ok pprof)) where
   -- a part of the checks has a fault
-  pub part-read : (Z : Type 0) {T : Type 0} (P : T → Type 0) (faults : List PprofFault) (fault : PprofFault)
-      → Leads faults (faults_of base pprof) → Judges {T = T} (Err fault) faults P → IsReadPprof {Z = Z} base bytes (Err fault)
-  part-read Z P faults Memory along h = tt
-  part-read Z P faults fault along h = inr (plain, inr (record { pprof = pprof; spelled = spelled; first = along fault h }))
+  pub part-read : (Z : Type 0) (faults : List PprofFault) (refused : Refused PprofFault)
+      → Leads faults (faults_of base pprof) → IfFault (IsFirst faults) refused → IfAnswered (IsReadPprof {Z = Z} base bytes) (Err refused)
+  part-read Z faults (Fault fault) along h = inr (plain, inr (record { pprof = pprof; spelled = spelled; first = along fault h }))
+  part-read Z faults Memory along h = tt
 
   -- the last part was judged, and none before has a fault
-  pub built-read : {Z : Type 0} (result : Result (Vec Profile Z) PprofFault) → judged_faults pprof ≡ []
+  pub built-read : {Z : Type 0} (result : Result (Vec Profile Z) (Refused PprofFault)) → judged_faults pprof ≡ []
       → Judges result (weight_faults base pprof) (λ profiles. map held_of profiles.items ≡ profiles_of base pprof)
-      → IsReadPprof base bytes result
+      → IfAnswered (IsReadPprof base bytes) result
   built-read (Ok profiles) none h =
       record { plain = plain; pprof = pprof; spelled = spelled; faultless = faults-none base pprof none h.0; own = h.1 }
-  built-read {Z} (Err fault) none h =
-      part-read Z (λ profiles. map held_of profiles.items ≡ profiles_of base pprof) (weight_faults base pprof) fault (weight-leads base pprof none) h
+  built-read {Z} (Err refused) none h =
+      part-read Z (weight_faults base pprof) refused (weight-leads base pprof none) h

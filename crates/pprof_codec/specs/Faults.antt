@@ -1,9 +1,9 @@
 -- A fault as a reply shows it.
-use Rattle.std.specs.Prelude.{ℕ, List, [], ◌∷◌, codes, Option, Some, None}
+use Rattle.std.specs.Prelude.{ℕ, List, [], ◌∷◌, codes}
 use Rattle.pprof_codec.specs.declared.fault.Member.{Member}
 use Rattle.pprof_codec.specs.declared.fault.Member.TheVariants as members
 use Rattle.pprof_codec.specs.declared.fault.PprofFault.{PprofFault}
-use Rattle.pprof_codec.specs.declared.fault.PprofFault.TheVariants.{Broken, NoEmptyText, NoSuchText, ZeroId, RepeatedId, NoSuchLocation, NoSuchFunction, WrongValueCount, NegativeValue, TooLarge, TooDeep, NotUtf8, Compressed, LongFrame, Weight, Memory}
+use Rattle.pprof_codec.specs.declared.fault.PprofFault.TheVariants.{Broken, NoEmptyText, NoSuchText, ZeroId, RepeatedId, NoSuchLocation, NoSuchFunction, WrongValueCount, NegativeValue, TooLarge, TooDeep, NotUtf8, Compressed, LongFrame, Weight}
 
 -- the number of its field in pprof's profile.proto
 abbrev pub field_of : Member → ℕ
@@ -14,23 +14,40 @@ field_of members.Function = 5
 field_of members.PeriodType = 11
 
 -- the fault's code
-abbrev pub code_of : PprofFault → Option (List ℕ)
-code_of (Broken at) = Some (codes "P1")
-code_of NoEmptyText = Some (codes "P2")
-code_of (NoSuchText member number) = Some (codes "P3")
-code_of (ZeroId member number) = Some (codes "P4")
-code_of (RepeatedId member number) = Some (codes "P5")
-code_of (NoSuchLocation sample) = Some (codes "P6")
-code_of (NoSuchFunction location) = Some (codes "P7")
-code_of (WrongValueCount sample) = Some (codes "P8")
-code_of (NegativeValue sample value) = Some (codes "P9")
-code_of (TooLarge sample_type) = Some (codes "P10")
-code_of (TooDeep sample) = Some (codes "P11")
-code_of (NotUtf8 text) = Some (codes "P12")
-code_of Compressed = Some (codes "P13")
-code_of (LongFrame function) = Some (codes "P14")
-code_of Weight = Some (codes "P14")
-code_of Memory = None
+abbrev pub code_of : PprofFault → List ℕ
+code_of (Broken at) = codes "P1"
+code_of NoEmptyText = codes "P2"
+code_of (NoSuchText member number) = codes "P3"
+code_of (ZeroId member number) = codes "P4"
+code_of (RepeatedId member number) = codes "P5"
+code_of (NoSuchLocation sample) = codes "P6"
+code_of (NoSuchFunction location) = codes "P7"
+code_of (WrongValueCount sample) = codes "P8"
+code_of (NegativeValue sample value) = codes "P9"
+code_of (TooLarge sample_type) = codes "P10"
+code_of (TooDeep sample) = codes "P11"
+code_of (NotUtf8 text) = codes "P12"
+code_of Compressed = codes "P13"
+code_of (LongFrame function) = codes "P14"
+code_of Weight = codes "P14"
+
+-- the number in the code
+abbrev pub number_of : PprofFault → ℕ
+number_of (Broken at) = 1
+number_of NoEmptyText = 2
+number_of (NoSuchText member number) = 3
+number_of (ZeroId member number) = 4
+number_of (RepeatedId member number) = 5
+number_of (NoSuchLocation sample) = 6
+number_of (NoSuchFunction location) = 7
+number_of (WrongValueCount sample) = 8
+number_of (NegativeValue sample value) = 9
+number_of (TooLarge sample_type) = 10
+number_of (TooDeep sample) = 11
+number_of (NotUtf8 text) = 12
+number_of Compressed = 13
+number_of (LongFrame function) = 14
+number_of Weight = 14
 
 -- the numbers of what has the fault
 abbrev pub place_of : PprofFault → List ℕ
@@ -49,4 +66,3 @@ place_of (NotUtf8 text) = text ∷ []
 place_of Compressed = []
 place_of (LongFrame function) = 5 ∷ function ∷ []
 place_of Weight = 0 ∷ 0 ∷ []
-place_of Memory = []

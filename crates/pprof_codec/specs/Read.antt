@@ -7,7 +7,7 @@ use Rattle.pprof_message.specs.Pprof.{Pprof}
 use Rattle.pprof_message.specs.Read.{IsReadMessage}
 use Rattle.pprof_codec.specs.declared.base.Base.{Base}
 use Rattle.pprof_codec.specs.declared.fault.PprofFault.{PprofFault}
-use Rattle.pprof_codec.specs.declared.fault.PprofFault.TheVariants.{Broken, Compressed, Memory}
+use Rattle.pprof_codec.specs.declared.fault.PprofFault.TheVariants.{Broken, Compressed}
 use Rattle.pprof_codec.specs.Profiles.{held_of, profiles_of}
 use Rattle.pprof_codec.specs.Checks.{faults_of, first_of}
 
@@ -43,5 +43,4 @@ IsFirstFault base bytes fault =
 -- the profiles of the bytes, or their first fault
 abbrev pub IsReadPprof : {Z : Type 0} → Base → List ℕ → Result (Vec Profile Z) PprofFault → Type 0
 IsReadPprof base bytes (Ok profiles) = AreProfilesOf base bytes profiles.items
-IsReadPprof base bytes (Err Memory) = Unit {0}
 IsReadPprof base bytes (Err fault) = IsFirstFault base bytes fault

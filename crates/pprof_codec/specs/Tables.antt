@@ -4,20 +4,25 @@ use Rattle.std.specs.List.{range_with_len}
 use Rattle.std.specs.Map.{lookup}
 use Rattle.std.specs.BTreeMap.{is_at}
 use Rattle.std.specs.Ordering.{nat_cmp}
+use Rattle.faults.specs.Answers.{IfFault}
+use Rattle.faults.specs.declared.refused.Refused.{Refused}
 use Rattle.profile_model.specs.Sums as sums
 use Rattle.profile_model.specs.Sums.{sums_of, with_added}
 use Rattle.pprof_message.specs.Pprof.{Pprof}
 use Rattle.pprof_codec.specs.declared.fault.PprofFault.{PprofFault}
-use Rattle.pprof_codec.specs.declared.fault.PprofFault.TheVariants.{Memory, Weight}
+use Rattle.pprof_codec.specs.declared.fault.PprofFault.TheVariants.{Weight}
 use Rattle.pprof_codec.specs.Frames.{function_frame, location_frames, root_first}
 use Rattle.pprof_codec.specs.Profiles.{samples_of, stacks_weight}
 use Rattle.pprof_codec.specs.Checks.{first_of}
 
+-- the first of these faults
+abbrev pub IsFirst : List PprofFault → PprofFault → Type 0
+IsFirst faults fault = first_of faults ≡ Some fault
+
 -- a part was judged: it has no fault and P holds, or this is its first fault
-abbrev pub Judges : {T : Type 0} → Result T PprofFault → List PprofFault → (T → Type 0) → Type 0
+abbrev pub Judges : {T : Type 0} → Result T (Refused PprofFault) → List PprofFault → (T → Type 0) → Type 0
 Judges (Ok x) faults P = (faults ≡ []) × P x
-Judges (Err Memory) faults P = Unit {0}
-Judges (Err fault) faults P = first_of faults ≡ Some fault
+Judges (Err refused) faults P = IfFault (IsFirst faults) refused
 
 -- the number of the member with this id
 abbrev pub number_of : List ℕ → ℕ → Option ℕ
@@ -46,12 +51,14 @@ pub record AreLocations (pprof : Pprof) (ids : List ℕ) (frames : List (List (L
 abbrev pub found_in : {X : Type 0} → List ℕ → List X → ℕ → Option X
 found_in ids values id = option_and_then (slice_get values) (number_of ids id)
 
+-- there is too little room for a weight
+abbrev pub IsShort : ℕ → ℕ → PprofFault → Type 0
+IsShort room weight fault = (fault ≡ Weight) × (room < weight)
+
 -- what is made weighs so much: there was room for it, or there is too little
-abbrev pub TakesRoom : {T : Type 0} → Result T PprofFault → ℕ → ℕ → ℕ → (T → Type 0) → Type 0
+abbrev pub TakesRoom : {T : Type 0} → Result T (Refused PprofFault) → ℕ → ℕ → ℕ → (T → Type 0) → Type 0
 TakesRoom (Ok x) before after weight P = (before ≡ after + weight) × P x
-TakesRoom (Err Memory) before after weight P = Unit {0}
-TakesRoom (Err Weight) before after weight P = before < weight
-TakesRoom (Err fault) before after weight P = ⊥
+TakesRoom (Err refused) before after weight P = IfFault (IsShort before weight) refused
 
 -- ---- samples by their numbers
 

@@ -15,6 +15,7 @@ use crate::room::take_room;
 use crate::sums::build_sums;
 use crate::texts::text_at;
 use crate::{Base, PprofFault};
+use faults::Refused;
 use pprof_message::ValueType;
 use profile_model::{MAX_PROFILES, Name, Profile, ProfileType, StackSums};
 use std::alloc::{AllocError, Global};
@@ -27,7 +28,7 @@ pub(crate) fn build_profiles(
     alloc: Global,
     judged: &Judged,
     base: &Base,
-) -> Result<Vec<Profile>, PprofFault>
+) -> Result<Vec<Profile>, Refused<PprofFault>>
     ensures built { Judges result (weight_faults base.now judged.now.message)
         (λ profiles. map held_of profiles.items ≡ profiles_of base.now judged.now.message) }
     ensures few { IfOk result (λ profiles. length profiles.items ≤ 4096) }
@@ -35,7 +36,7 @@ pub(crate) fn build_profiles(
 {
     let kinds = judged.message.sample_types();
     if kinds.len() > MAX_PROFILES {
-        return Err(PprofFault::Weight);
+        return Err(Refused::Fault(PprofFault::Weight));
     }
     let mut room = MAX_WEIGHT;
     let mut sums = build_sums(alloc, judged, &mut room)?.into_iter();
@@ -58,7 +59,7 @@ fn build_profile(
     kind: &ValueType,
     values: StackSums,
     room: &mut u64,
-) -> Result<Profile, PprofFault>
+) -> Result<Profile, Refused<PprofFault>>
     requires number { number < length judged.now.message.sample_types }
     requires room { room.old ≤ 268435456 }
     requires values { values ≡ sums_of (samples_of judged.now.message number) }

@@ -1,10 +1,10 @@
 // Why bytes are no pprof.
-ghost use Rattle.std.specs.Prelude.{◌≡◌, [], ◌∷◌, option_map};
-ghost use Rattle.pprof_codec.specs.declared.fault.PprofFault.TheVariants.{Memory};
-ghost use Rattle.pprof_codec.specs.Faults.{code_of, field_of, place_of};
+ghost use Rattle.std.specs.Prelude.{◌≡◌, ◌≤◌, length};
+ghost use Rattle.faults.specs.Places.{numbers_of};
+ghost use Rattle.faults.specs.declared.refused.Refused.TheVariants.{Fault};
+ghost use Rattle.pprof_codec.specs.Faults.{code_of, field_of, number_of, place_of};
 
-use arrayvec::ArrayVec;
-use std::alloc::{AllocError, AllocFailed};
+use faults::{Place, Refused};
 use std::error::Error;
 use std::fmt;
 
@@ -73,39 +73,60 @@ pub enum PprofFault {
     LongFrame { function: u64 },
     /// There are more sample types than a push may have profiles, or the profiles weigh too much.
     Weight,
-    Memory,
 }
 
 impl PprofFault {
-    /// The code that stands for the fault in a reply. Want of memory has none.
-    pub fn code(&self) -> Option<&'static str>
-        ensures { option_map (λ code. code.now) result ≡ code_of self.now }
+    /// The code that stands for the fault in a reply.
+    pub fn code(&self) -> &'static str
+        ensures { result.now ≡ code_of self.now }
     {
         match self {
-            PprofFault::Broken(_) => Some("P1"),
-            PprofFault::NoEmptyText => Some("P2"),
-            PprofFault::NoSuchText { .. } => Some("P3"),
-            PprofFault::ZeroId { .. } => Some("P4"),
-            PprofFault::RepeatedId { .. } => Some("P5"),
-            PprofFault::NoSuchLocation { .. } => Some("P6"),
-            PprofFault::NoSuchFunction { .. } => Some("P7"),
-            PprofFault::WrongValueCount { .. } => Some("P8"),
-            PprofFault::NegativeValue { .. } => Some("P9"),
-            PprofFault::TooLarge { .. } => Some("P10"),
-            PprofFault::TooDeep { .. } => Some("P11"),
-            PprofFault::NotUtf8 { .. } => Some("P12"),
-            PprofFault::Compressed => Some("P13"),
-            PprofFault::LongFrame { .. } | PprofFault::Weight => Some("P14"),
-            PprofFault::Memory => None,
+            PprofFault::Broken(_) => "P1",
+            PprofFault::NoEmptyText => "P2",
+            PprofFault::NoSuchText { .. } => "P3",
+            PprofFault::ZeroId { .. } => "P4",
+            PprofFault::RepeatedId { .. } => "P5",
+            PprofFault::NoSuchLocation { .. } => "P6",
+            PprofFault::NoSuchFunction { .. } => "P7",
+            PprofFault::WrongValueCount { .. } => "P8",
+            PprofFault::NegativeValue { .. } => "P9",
+            PprofFault::TooLarge { .. } => "P10",
+            PprofFault::TooDeep { .. } => "P11",
+            PprofFault::NotUtf8 { .. } => "P12",
+            PprofFault::Compressed => "P13",
+            PprofFault::LongFrame { .. } | PprofFault::Weight => "P14",
+        }
+    }
+
+    /// The number in the code.
+    pub fn number(&self) -> u64
+        ensures { result ≡ number_of self.now }
+    {
+        match self {
+            PprofFault::Broken(_) => 1,
+            PprofFault::NoEmptyText => 2,
+            PprofFault::NoSuchText { .. } => 3,
+            PprofFault::ZeroId { .. } => 4,
+            PprofFault::RepeatedId { .. } => 5,
+            PprofFault::NoSuchLocation { .. } => 6,
+            PprofFault::NoSuchFunction { .. } => 7,
+            PprofFault::WrongValueCount { .. } => 8,
+            PprofFault::NegativeValue { .. } => 9,
+            PprofFault::TooLarge { .. } => 10,
+            PprofFault::TooDeep { .. } => 11,
+            PprofFault::NotUtf8 { .. } => 12,
+            PprofFault::Compressed => 13,
+            PprofFault::LongFrame { .. } | PprofFault::Weight => 14,
         }
     }
 
     /// The numbers of what has the fault: none, one or two.
-    pub fn place(&self) -> ArrayVec<u64, 2>
-        ensures { result.items ≡ place_of self.now }
+    pub fn place(&self) -> Place
+        ensures place { numbers_of result ≡ place_of self.now }
+        ensures short { length (numbers_of result) ≤ 2 }
     {
         match self {
-            PprofFault::NoEmptyText | PprofFault::Compressed | PprofFault::Memory => no_number(),
+            PprofFault::NoEmptyText | PprofFault::Compressed => Place::Whole,
             PprofFault::Broken(number)
             | PprofFault::NoSuchLocation { sample: number }
             | PprofFault::NoSuchFunction { location: number }
@@ -114,38 +135,15 @@ impl PprofFault {
                 sample_type: number,
             }
             | PprofFault::TooDeep { sample: number }
-            | PprofFault::NotUtf8 { text: number } => one_number(*number),
+            | PprofFault::NotUtf8 { text: number } => Place::At(*number),
             PprofFault::NoSuchText { member, number }
             | PprofFault::ZeroId { member, number }
-            | PprofFault::RepeatedId { member, number } => two_numbers(member.field(), *number),
-            PprofFault::NegativeValue { sample, value } => two_numbers(*sample, *value),
-            PprofFault::LongFrame { function } => two_numbers(Member::Function.field(), *function),
-            PprofFault::Weight => two_numbers(0, 0),
+            | PprofFault::RepeatedId { member, number } => Place::Pair(member.field(), *number),
+            PprofFault::NegativeValue { sample, value } => Place::Pair(*sample, *value),
+            PprofFault::LongFrame { function } => Place::Pair(Member::Function.field(), *function),
+            PprofFault::Weight => Place::Pair(0, 0),
         }
     }
-}
-
-fn no_number() -> ArrayVec<u64, 2>
-    ensures { result.items ≡ [] }
-{
-    ArrayVec::new()
-}
-
-fn one_number(number: u64) -> ArrayVec<u64, 2>
-    ensures { result.items ≡ number ∷ [] }
-{
-    let mut place = ArrayVec::new();
-    place.push(number);
-    place
-}
-
-fn two_numbers(first: u64, second: u64) -> ArrayVec<u64, 2>
-    ensures { result.items ≡ first ∷ second ∷ [] }
-{
-    let mut place = ArrayVec::new();
-    place.push(first);
-    place.push(second);
-    place
 }
 
 impl fmt::Display for PprofFault {
@@ -186,25 +184,16 @@ impl fmt::Display for PprofFault {
                 "function {function} has a name that is too long"
             ),
             PprofFault::Weight => write!(f, "the profiles weigh too much"),
-            PprofFault::Memory => write!(f, "out of memory"),
         }
     }
 }
 
 impl Error for PprofFault {}
 
-impl From<AllocError> for PprofFault {
-    ghost from_gives = { λ _ fault. fault ≡ Memory };
+impl From<PprofFault> for Refused<PprofFault> {
+    ghost from_gives = { λ fault refused. refused ≡ Fault fault };
 
-    fn from(_error: AllocError) -> PprofFault {
-        PprofFault::Memory
-    }
-}
-
-impl<T: Drop> From<AllocFailed<T>> for PprofFault {
-    ghost from_gives = { λ _ fault. fault ≡ Memory };
-
-    fn from(_error: AllocFailed<T>) -> PprofFault {
-        PprofFault::Memory
+    fn from(fault: PprofFault) -> Refused<PprofFault> {
+        Refused::Fault(fault)
     }
 }

@@ -9,6 +9,7 @@ ghost use Rattle.pprof_codec.specs.Tables.{Judges, found_in};
 use crate::ids::Ids;
 use crate::texts::{has_names, text_at};
 use crate::{Member, PprofFault};
+use faults::Refused;
 use pprof_message::Function;
 use profile_model::{MAX_FRAME_BYTES, Name};
 use std::alloc::Global;
@@ -31,7 +32,7 @@ impl Functions {
         names: &[Name],
         unknown: &Name,
         functions: &[Function],
-    ) -> Result<Functions, PprofFault>
+    ) -> Result<Functions, Refused<PprofFault>>
         requires { unknown.now ≡ unknown_frame }
         ensures { Judges result (function_faults names.now functions.now) (λ table.
             (table.ids ≡ map (λ f. f.id) functions.now) × (table.frames.items ≡ map (function_frame names.now) functions.now)) }
@@ -41,7 +42,7 @@ impl Functions {
         for (number, function) in functions.iter().enumerate() {
             let frame = frame_of(names, unknown, function);
             if let Some(fault) = function_fault(names, &ids, number as u64, function, frame) {
-                return Err(fault);
+                return Err(Refused::Fault(fault));
             }
             ids.push(function.id)?;
             frames.push(frame.clone()?)?;

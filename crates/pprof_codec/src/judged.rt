@@ -14,6 +14,7 @@ use crate::locations::Locations;
 use crate::samples::first_sample_fault;
 use crate::texts::{first_text_fault, period_type_fault, read_names, sample_type_fault};
 use crate::totals::first_total_fault;
+use faults::Refused;
 use pprof_message::PprofMessage;
 use profile_model::Name;
 use std::alloc::Global;
@@ -34,14 +35,17 @@ pub(crate) struct Judged<'a> {
 }
 
 // Judges all but the weight, in the order of the checks.
-pub(crate) fn judge(alloc: Global, message: PprofMessage<'_>) -> Result<Judged<'_>, PprofFault>
+pub(crate) fn judge(
+    alloc: Global,
+    message: PprofMessage<'_>,
+) -> Result<Judged<'_>, Refused<PprofFault>>
     ensures { Judges result (judged_faults message.entry) (λ judged. judged.message ≡ message.entry) }
 {
     let names = judge_texts(alloc, &message)?;
     let unknown = Name::from_text(alloc, UNKNOWN_FRAME)?;
     let locations = judge_locations(alloc, &message, &names, &unknown)?;
     if let Some(fault) = first_value_fault(&message, &names, &locations) {
-        return Err(fault);
+        return Err(Refused::Fault(fault));
     }
     Ok(Judged {
         message,
@@ -52,15 +56,15 @@ pub(crate) fn judge(alloc: Global, message: PprofMessage<'_>) -> Result<Judged<'
 }
 
 // The texts, where all places of the types are among them.
-fn judge_texts(alloc: Global, message: &PprofMessage) -> Result<Vec<Name>, PprofFault>
+fn judge_texts(alloc: Global, message: &PprofMessage) -> Result<Vec<Name>, Refused<PprofFault>>
     ensures { Judges result (faults_to_types message.now) (λ names. names.items ≡ message.now.texts) }
 {
     if let Some(fault) = first_text_fault(message.texts()) {
-        return Err(fault);
+        return Err(Refused::Fault(fault));
     }
     let names = read_names(alloc, message.texts())?;
     if let Some(fault) = first_type_fault(message, &names) {
-        return Err(fault);
+        return Err(Refused::Fault(fault));
     }
     Ok(names)
 }
@@ -80,7 +84,7 @@ fn judge_locations(
     message: &PprofMessage,
     names: &[Name],
     unknown: &Name,
-) -> Result<Locations, PprofFault>
+) -> Result<Locations, Refused<PprofFault>>
     requires texts { names.now ≡ message.now.texts }
     requires name { unknown.now ≡ unknown_frame }
     ensures { Judges result (place_faults message.now) (λ table. AreLocations message.now table.ids table.frames.items) }

@@ -11,6 +11,7 @@ ghost use Rattle.pprof_codec.specs.Tables.{AreFunctions, AreLocations, Judges, f
 use crate::functions::Functions;
 use crate::ids::Ids;
 use crate::{Member, PprofFault};
+use faults::Refused;
 use pprof_message::{LocationRef, PprofMessage};
 use profile_model::Name;
 use std::alloc::{AllocError, Global};
@@ -87,7 +88,7 @@ impl Locations {
         message: &PprofMessage,
         unknown: &Name,
         functions: &Functions,
-    ) -> Result<Locations, PprofFault>
+    ) -> Result<Locations, Refused<PprofFault>>
         requires name { unknown.now ≡ unknown_frame }
         requires functions { AreFunctions message.now functions.now.ids functions.now.frames.items }
         ensures { Judges result (location_faults message.now) (λ table. AreLocations message.now table.ids table.frames.items) }
@@ -97,7 +98,7 @@ impl Locations {
         for number in 0..message.locations() {
             let location = message.location(number);
             if let Some(fault) = location_fault(functions, &ids, number as u64, &location) {
-                return Err(fault);
+                return Err(Refused::Fault(fault));
             }
             ids.push(location.id)?;
             frames.push(frames_of(alloc, unknown, functions, &location)?)?;

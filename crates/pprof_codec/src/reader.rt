@@ -1,11 +1,13 @@
 // A pprof to profiles.
 ghost use Rattle.std.specs.Prelude.{◌≤◌, length, sum_by, IfOk};
+ghost use Rattle.faults.specs.Answers.{IfAnswered};
 ghost use Rattle.profile_model.specs.Weights.{profile_weight};
 ghost use Rattle.pprof_codec.specs.Read.{IsReadPprof};
 
 use crate::build::build_profiles;
 use crate::judged::judge;
 use crate::{Base, PprofFault};
+use faults::Refused;
 use pprof_message::{MessageFault, read_message};
 use profile_model::Profile;
 use std::alloc::Global;
@@ -15,21 +17,27 @@ const GZIP: [u8; 2] = [0x1F, 0x8B];
 
 /// The profiles of a pprof (its `profile.proto`, uncompressed): one for each sample type, in order. Equal stacks
 /// are summed, values of 0 and the samples' labels are dropped. The error is the first fault in the order of the checks.
-pub fn read_pprof(alloc: Global, bytes: &[u8], base: &Base) -> Result<Vec<Profile>, PprofFault>
-    ensures read { IsReadPprof base.now bytes.now result }
+pub fn read_pprof(
+    alloc: Global,
+    bytes: &[u8],
+    base: &Base,
+) -> Result<Vec<Profile>, Refused<PprofFault>>
+    ensures read { IfAnswered (IsReadPprof base.now bytes.now) result }
     ensures few { IfOk result (λ profiles. length profiles.items ≤ 4096) }
     ensures light { IfOk result (λ profiles. sum_by profile_weight profiles.items ≤ 268435456) }
 {
     if bytes.starts_with(&GZIP) {
-        return Err(PprofFault::Compressed);
+        return Err(Refused::Fault(PprofFault::Compressed));
     }
     let message = match read_message(alloc, bytes) {
         Ok(message) => message,
-        Err(MessageFault::Broken(at)) => return Err(PprofFault::Broken(at)),
-        Err(MessageFault::Memory) => return Err(PprofFault::Memory),
+        Err(Refused::Fault(MessageFault::Broken(at))) => {
+            return Err(Refused::Fault(PprofFault::Broken(at)));
+        }
+        Err(Refused::Memory) => return Err(Refused::Memory),
     };
     match judge(alloc, message) {
         Ok(judged) => build_profiles(alloc, &judged, base),
-        Err(fault) => Err(fault),
+        Err(refused) => Err(refused),
     }
 }

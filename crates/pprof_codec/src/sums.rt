@@ -12,6 +12,7 @@ use crate::room::take_room;
 use crate::runs::{run_length, sample_order};
 use crate::stacks::build_stack;
 use crate::totals::value_of;
+use faults::Refused;
 use pprof_message::PprofMessage;
 use profile_model::{AddFault, Stack, StackSums};
 use std::alloc::{AllocError, Global};
@@ -21,7 +22,7 @@ pub(crate) fn build_sums(
     alloc: Global,
     judged: &Judged,
     room: &mut u64,
-) -> Result<Vec<StackSums>, PprofFault>
+) -> Result<Vec<StackSums>, Refused<PprofFault>>
     ensures { let sums = all_sums judged.now.message in
         TakesRoom result room.old room.new (sums_weight sums) (λ built. built.items ≡ sums) }
 {
@@ -54,7 +55,7 @@ fn add_run(
     run: &[usize],
     sums: &mut [StackSums],
     room: &mut u64,
-) -> Result<(), PprofFault>
+) -> Result<(), Refused<PprofFault>>
     requires some { 0 < length run.now }
     requires known { All (λ at. at < length judged.now.message.samples) run.now }
     requires totals { (number : ℕ) → number < length sums.old →
@@ -76,7 +77,7 @@ fn add_to_each(
     stack: Stack,
     sums: &mut [StackSums],
     room: &mut u64,
-) -> Result<(), PprofFault>
+) -> Result<(), Refused<PprofFault>>
     requires some { 0 < length sums.old }
     requires known { All (λ at. at < length message.now.samples) run.now }
     requires totals { (number : ℕ) → number < length sums.old →
@@ -114,7 +115,7 @@ fn add_copy(
     weight: u64,
     value: u64,
     room: &mut u64,
-) -> Result<(), PprofFault>
+) -> Result<(), Refused<PprofFault>>
     requires total { total_of sums.old + value < 2 ^ 63 }
     requires weight { weight ≡ stack_weight stack.now }
     ensures { let after = with_added sums.old stack.now value in
@@ -133,7 +134,7 @@ fn add(
     weight: u64,
     value: u64,
     room: &mut u64,
-) -> Result<(), PprofFault>
+) -> Result<(), Refused<PprofFault>>
     requires total { total_of sums.old + value < 2 ^ 63 }
     requires weight { weight ≡ stack_weight stack }
     ensures { let after = with_added sums.old stack value in
@@ -141,9 +142,9 @@ fn add(
 {
     let count = sums.len();
     match sums.add(stack, value) {
-        Ok(()) if sums.len() > count => take_room(room, weight),
+        Ok(()) if sums.len() > count => Ok(take_room(room, weight)?),
         Ok(()) => Ok(()),
-        Err(AddFault::Sum) => unreachable!(),
-        Err(AddFault::Memory) => Err(PprofFault::Memory),
+        Err(Refused::Fault(AddFault::Sum)) => unreachable!(),
+        Err(Refused::Memory) => Err(Refused::Memory),
     }
 }

@@ -1,5 +1,6 @@
 // Worked profiles, and what no clause says: that the calls succeed with ample memory, and the texts of the faults.
 use crate::{Base, Member, PprofFault, read_pprof};
+use faults::{Place, Refused};
 use profile_model::{LabelSet, Name, Profile, ProfileType};
 use std::alloc::Global;
 use std::test::Fail;
@@ -99,49 +100,68 @@ fn another_spelling_says_the_same(rt: HostRuntime) -> Result<(), Fail> {
 fn the_first_fault_is_told(rt: HostRuntime) -> Result<(), Fail> {
     let alloc = rt.alloc();
     let base = base(alloc)?;
-    let cases: [(&[u8], &str, &[u64]); 23] = [
-        (b"\x08", "P1", &[0]),
-        (b"\x0B", "P1", &[0]),
-        (b"\x08\x80\x80\x80\x80\x80\x80\x80\x80\x80\x02", "P1", &[0]),
-        (b"\x0A\x02\x08\x01", "P2", &[]),
-        (b"", "P2", &[]),
-        (b"\x32\x01a", "P2", &[]),
-        (b"\x32\x00\x32\x01\xFF", "P12", &[1]),
-        (b"\x32\x00\x0A\x04\x08\x05\x10\x00", "P3", &[1, 0]),
-        (b"\x32\x00\x5A\x02\x10\x01", "P3", &[11, 0]),
-        (b"\x32\x00\x2A\x00", "P4", &[5, 0]),
-        (b"\x32\x00\x2A\x02\x08\x01\x2A\x02\x08\x01", "P5", &[5, 1]),
-        (b"\x32\x00\x2A\x04\x08\x01\x18\x01", "P3", &[5, 0]),
-        (b"\x32\x00\x22\x00", "P4", &[4, 0]),
-        (b"\x32\x00\x22\x02\x08\x01\x22\x02\x08\x01", "P5", &[4, 1]),
-        (b"\x32\x00\x12\x03\x0A\x01\x05", "P6", &[0]),
-        (b"\x32\x00\x22\x06\x08\x01\x22\x02\x08\x09", "P7", &[0]),
-        (b"\x32\x00\x0A\x00\x12\x00", "P8", &[0]),
-        (b"\x32\x00\x12\x04\x1A\x02\x08\x01", "P3", &[2, 0]),
+    let cases: [(&[u8], &str, Place); 23] = [
+        (b"\x08", "P1", Place::At(0)),
+        (b"\x0B", "P1", Place::At(0)),
+        (
+            b"\x08\x80\x80\x80\x80\x80\x80\x80\x80\x80\x02",
+            "P1",
+            Place::At(0),
+        ),
+        (b"\x0A\x02\x08\x01", "P2", Place::Whole),
+        (b"", "P2", Place::Whole),
+        (b"\x32\x01a", "P2", Place::Whole),
+        (b"\x32\x00\x32\x01\xFF", "P12", Place::At(1)),
+        (b"\x32\x00\x0A\x04\x08\x05\x10\x00", "P3", Place::Pair(1, 0)),
+        (b"\x32\x00\x5A\x02\x10\x01", "P3", Place::Pair(11, 0)),
+        (b"\x32\x00\x2A\x00", "P4", Place::Pair(5, 0)),
+        (
+            b"\x32\x00\x2A\x02\x08\x01\x2A\x02\x08\x01",
+            "P5",
+            Place::Pair(5, 1),
+        ),
+        (b"\x32\x00\x2A\x04\x08\x01\x18\x01", "P3", Place::Pair(5, 0)),
+        (b"\x32\x00\x22\x00", "P4", Place::Pair(4, 0)),
+        (
+            b"\x32\x00\x22\x02\x08\x01\x22\x02\x08\x01",
+            "P5",
+            Place::Pair(4, 1),
+        ),
+        (b"\x32\x00\x12\x03\x0A\x01\x05", "P6", Place::At(0)),
+        (
+            b"\x32\x00\x22\x06\x08\x01\x22\x02\x08\x09",
+            "P7",
+            Place::At(0),
+        ),
+        (b"\x32\x00\x0A\x00\x12\x00", "P8", Place::At(0)),
+        (b"\x32\x00\x12\x04\x1A\x02\x08\x01", "P3", Place::Pair(2, 0)),
         (
             b"\x32\x00\x0A\x00\x12\x0B\x10\xFF\xFF\xFF\xFF\xFF\xFF\xFF\xFF\xFF\x01",
             "P9",
-            &[0, 0],
+            Place::Pair(0, 0),
         ),
         (
             b"\x32\x00\x0A\x00\x12\x0A\x10\xFF\xFF\xFF\xFF\xFF\xFF\xFF\xFF\x7F\x12\x02\x10\x01",
             "P10",
-            &[0],
+            Place::At(0),
         ),
-        (b"\x1F\x8B", "P13", &[]),
-        (b"\x1F\x8B\x08\x32\x00", "P13", &[]),
+        (b"\x1F\x8B", "P13", Place::Whole),
+        (b"\x1F\x8B\x08\x32\x00", "P13", Place::Whole),
         // The order is that of the checks, not that of the bytes.
-        (b"\x2A\x00\x32\x00\x0A\x02\x08\x01\x32\x01\xFF", "P12", &[1]),
+        (
+            b"\x2A\x00\x32\x00\x0A\x02\x08\x01\x32\x01\xFF",
+            "P12",
+            Place::At(1),
+        ),
     ];
     for (bytes, code, place) in cases {
-        let fault = read_pprof(alloc, bytes, &base).err();
-        assert_eq!(rt;
-            fault.and_then(|fault| fault.code()),
-            Some(code),
-            "{bytes:?}"
-        );
+        let fault = match read_pprof(alloc, bytes, &base) {
+            Err(Refused::Fault(fault)) => Some(fault),
+            Ok(_) | Err(Refused::Memory) => None,
+        };
+        assert_eq!(rt; fault.map(|fault| fault.code()), Some(code), "{bytes:?}");
         if let Some(fault) = fault {
-            assert_eq!(rt; fault.place().as_slice(), place, "{bytes:?}");
+            assert_eq!(rt; fault.place(), place, "{bytes:?}");
         }
     }
     Ok(())
@@ -154,10 +174,10 @@ fn a_negative_value_is_refused(rt: HostRuntime) -> Result<(), Fail> {
     let bytes = joined(alloc, &[TYPE, sample, LOCATION, FUNCTIONS, TEXTS])?;
     assert_eq!(rt;
         read_pprof(alloc, &bytes, &base(alloc)?).err(),
-        Some(PprofFault::NegativeValue {
+        Some(Refused::Fault(PprofFault::NegativeValue {
             sample: 0,
             value: 0
-        })
+        }))
     );
     Ok(())
 }
@@ -312,7 +332,7 @@ fn a_sample_has_at_most_1024_frames(rt: HostRuntime) -> Result<(), Fail> {
         (
             b"\x12\x82\x10",
             1025,
-            Some(PprofFault::TooDeep { sample: 0 }),
+            Some(Refused::Fault(PprofFault::TooDeep { sample: 0 })),
         ),
     ] {
         let mut bytes = joined(alloc, &[b"\x32\x00\x22\x02\x08\x01", length])?;
@@ -336,7 +356,7 @@ fn a_frame_has_at_most_65535_bytes(rt: HostRuntime) -> Result<(), Fail> {
         (
             b"\x32\x80\x80\x04",
             65_536,
-            Some(PprofFault::LongFrame { function: 0 }),
+            Some(Refused::Fault(PprofFault::LongFrame { function: 0 })),
         ),
     ] {
         let mut bytes = joined(alloc, &[b"\x2A\x04\x08\x01\x10\x01\x32\x00", length])?;
@@ -355,7 +375,10 @@ fn a_frame_has_at_most_65535_bytes(rt: HostRuntime) -> Result<(), Fail> {
 #[test]
 fn there_are_at_most_4096_profiles(rt: HostRuntime) -> Result<(), Fail> {
     let alloc = rt.alloc();
-    for (count, fault) in [(4096, None), (4097, Some(PprofFault::Weight))] {
+    for (count, fault) in [
+        (4096, None),
+        (4097, Some(Refused::Fault(PprofFault::Weight))),
+    ] {
         let mut bytes = joined(alloc, &[b"\x32\x00"])?;
         for _ in 0..count {
             bytes.extend_from_slice(b"\x0A\x00")?;
@@ -428,10 +451,11 @@ fn a_fault_is_told_in_words(rt: HostRuntime) -> Result<(), Fail> {
             "function 6 has a name that is too long",
         ),
         (PprofFault::Weight, "the profiles weigh too much"),
-        (PprofFault::Memory, "out of memory"),
     ] {
-        let told = fault.to_string(rt.alloc())?;
+        let told = Refused::Fault(fault).to_string(rt.alloc())?;
         assert_eq!(rt; told.as_str(), words);
     }
+    let told = Refused::<PprofFault>::Memory.to_string(rt.alloc())?;
+    assert_eq!(rt; told.as_str(), "out of memory");
     Ok(())
 }

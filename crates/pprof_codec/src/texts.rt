@@ -5,6 +5,7 @@ ghost use Rattle.pprof_codec.specs.Checks.{begins_empty, first_of, faults_of_tex
 ghost use Rattle.pprof_codec.specs.Tables.{Judges};
 
 use crate::{Member, PprofFault};
+use faults::Refused;
 use pprof_message::{Function, Label, ValueType};
 use profile_model::{Name, NameFault};
 use std::alloc::Global;
@@ -28,7 +29,7 @@ fn begins_empty(texts: &[&[u8]]) -> bool
 }
 
 // Each text as a name, so that no frame copies its bytes again.
-pub(crate) fn read_names(alloc: Global, texts: &[&[u8]]) -> Result<Vec<Name>, PprofFault>
+pub(crate) fn read_names(alloc: Global, texts: &[&[u8]]) -> Result<Vec<Name>, Refused<PprofFault>>
     ensures { let bytes = map (λ text. text.now) texts.now in Judges result (text_faults bytes) (λ names. names.items ≡ bytes) }
 {
     let mut names = Vec::with_capacity(alloc, texts.len())?;
@@ -39,13 +40,15 @@ pub(crate) fn read_names(alloc: Global, texts: &[&[u8]]) -> Result<Vec<Name>, Pp
     Ok(names)
 }
 
-fn read_name(alloc: Global, text: &[u8], number: u64) -> Result<Name, PprofFault>
+fn read_name(alloc: Global, text: &[u8], number: u64) -> Result<Name, Refused<PprofFault>>
     ensures { Judges result (faults_of_text number text.now) (λ name. name ≡ text.now) }
 {
     match Name::read(alloc, text) {
         Ok(name) => Ok(name),
-        Err(NameFault::NotUtf8(_)) => Err(PprofFault::NotUtf8 { text: number }),
-        Err(NameFault::Memory) => Err(PprofFault::Memory),
+        Err(Refused::Fault(NameFault::NotUtf8(_))) => {
+            Err(Refused::Fault(PprofFault::NotUtf8 { text: number }))
+        }
+        Err(Refused::Memory) => Err(Refused::Memory),
     }
 }
 

@@ -19,7 +19,7 @@ returns-then-kinds-gt-MAX_PROFILES-clause-built c =
 pub returns-in_err-build_sums-clause-built : goal.returns-in_err-build_sums-clause-built
 returns-in_err-build_sums-clause-built c =
     let p = err_from_is_err_and c.from_residual.result c.from_residual.ensures.1 in
-    rw (p.1, p.2) (sums-heavy _ _ c.args.base.now c.args.judged.now.message c.in_err-build_sums.field-0.0 c.build_sums.new.room c.in_err-build_sums.ensures)
+    rw (p.1, p.2) (sums-heavy c.args.base.now c.args.judged.now.message c.in_err-build_sums.field-0.0 c.in_err-build_sums.ensures)
 
 pub loop-number-init : goal.loop-number-init
 loop-number-init c =
@@ -58,7 +58,7 @@ returns-in_err-build_profile-clause-built c =
     let taken = c.loop-number.invariant.taken in
     rw (p.1, p.2)
     (profile-no_room c.args.base.now message c.sample_types-kinds.result.now c.loop-number.number _ (c.loop-number.room + stacks_weight c.in-Some.values) c.build_profile.new.room
-    _ _ c.in_err-build_profile.field-0.0 (sums_weight (into_iter_items c.next.new.self))
+    c.in_err-build_profile.field-0.0 (sums_weight (into_iter_items c.next.new.self))
     c.sample_types-kinds.ensures (omega arith) (omega arith) (omega arith) c.in_err-build_profile.ensures)
 
 pub loop-number-preserved : goal.loop-number-preserved

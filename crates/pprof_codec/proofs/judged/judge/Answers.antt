@@ -1,7 +1,7 @@
 use Rattle.std.proofs.Common.{◌≡◌, [], refl, sym, ◌∙◌}
 use Rattle.std.proofs.lemmas.Result.{err_from_is_err_and}
-use Rattle.pprof_codec.specs.Checks.{judged_faults, value_faults}
-use Rattle.pprof_codec.proofs.FaultLemmas.{first-none, judged-err}
+use Rattle.pprof_codec.specs.Checks.{value_faults}
+use Rattle.pprof_codec.proofs.FaultLemmas.{first-none}
 use Rattle.pprof_codec.proofs.JudgedLemmas.{judged-part, to_types-lead, places-lead, values-lead, judged-none, functions-none, samples-none, totals-none}
 use Rattle.pprof_codec.proofs.StackLemmas.{functions-HaveFrames, samples-IsStack}
 use Rattle.pprof_codec.proofs.TotalLemmas.{totals-below}
@@ -10,7 +10,7 @@ use Rattle.pprof_codec.proofs.judged.judge.Goals as goal
 pub returns-in_err-names : goal.returns-in_err-names
 returns-in_err-names c =
     let p = err_from_is_err_and c.from_residual.result c.from_residual.ensures.1 in
-    rw (p.1, p.2) (judged-part _ _ _ _ c.in_err-names.field-0.0 (to_types-lead c.args.message) c.in_err-names.ensures)
+    rw (p.1, p.2) (judged-part _ _ c.in_err-names.field-0.0 (to_types-lead c.args.message) c.in_err-names.ensures)
 
 pub judge_locations-requires-clause-texts : goal.judge_locations-requires-clause-texts
 judge_locations-requires-clause-texts c = c.deref.ensures.value ∙ c.in_ok-names.ensures.1
@@ -21,7 +21,7 @@ judge_locations-requires-clause-name c = c.in_ok-unknown.ensures.ok
 pub returns-in_err-locations : goal.returns-in_err-locations
 returns-in_err-locations c =
     let p = err_from_is_err_and c.from_residual-in_err-locations.result c.from_residual-in_err-locations.ensures.1 in
-    rw (p.1, p.2) (judged-part _ _ _ _ c.in_err-locations.field-0.0 (places-lead c.args.message c.in_ok-names.ensures.0) c.in_err-locations.ensures)
+    rw (p.1, p.2) (judged-part _ _ c.in_err-locations.field-0.0 (places-lead c.args.message c.in_ok-names.ensures.0) c.in_err-locations.ensures)
 
 pub first_value_fault-requires-clause-texts : goal.first_value_fault-requires-clause-texts
 first_value_fault-requires-clause-texts c = c.deref-2.ensures.value ∙ c.in_ok-names.ensures.1
@@ -31,8 +31,7 @@ first_value_fault-requires-clause-locations c = c.in_ok-locations.ensures.1
 
 pub returns-in-Some : goal.returns-in-Some
 returns-in-Some c =
-    judged-err _ (judged_faults c.args.message) c.in-Some.fault
-    (values-lead c.args.message c.in_ok-names.ensures.0 c.in_ok-locations.ensures.0 c.in-Some.fault (sym c.first_value_fault.ensures ∙ c.in-Some.is))
+    values-lead c.args.message c.in_ok-names.ensures.0 c.in_ok-locations.ensures.0 c.in-Some.fault (sym c.first_value_fault.ensures ∙ c.in-Some.is)
 
 pub invariant_of-result : goal.invariant_of-result
 invariant_of-result c =

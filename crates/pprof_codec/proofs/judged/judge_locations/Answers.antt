@@ -16,7 +16,7 @@ returns-in_err-functions c =
     ap (λ texts. function_faults texts c.functions.result.now) c.requires.texts ∙ ap (function_faults c.args.message.now.texts) c.functions.ensures in
     let p = err_from_is_err_and c.from_residual.result c.from_residual.ensures.1 in
     rw (p.1, p.2)
-    (judged-part _ _ _ _ c.in_err-functions.field-0.0
+    (judged-part _ _ c.in_err-functions.field-0.0
     (λ fault here. functions-lead c.args.message.now fault (sym (ap first_of same) ∙ here))
     c.in_err-functions.ensures)
 

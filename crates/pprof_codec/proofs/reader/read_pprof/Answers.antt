@@ -15,4 +15,4 @@ pub returns-in-Err-clause-read : goal.returns-in-Err-clause-read
 returns-in-Err-clause-read c =
     part-read c.args.base.now c.args.bytes.now c.in-Ok.message
     (not-begun _ _ c.starts_with.ensures.value c.if-starts_with.false) c.in-Ok.ensures.read
-    Global _ (judged_faults c.in-Ok.message) c.in-Err.fault (judged-leads c.args.base.now c.in-Ok.message) c.in-Err.ensures
+    Global (judged_faults c.in-Ok.message) c.in-Err.refused (judged-leads c.args.base.now c.in-Ok.message) c.in-Err.ensures

@@ -18,8 +18,8 @@ returns-in_err-add_copy c =
     let most = step-least c.args.message.now c.args.run.now c.args.stack c.args.sums.now c.loop-number.number (omega arith) c.loop-number.sums c.loop-number.invariant.added
     c.index-sums-number.result c.value_of_run-value.result c.value_of_run-value.ensures in
     let taken = c.loop-number.invariant.taken in
-    rw (p.1, p.2) (takes-along _ _ c.in_err-add_copy.field-0.0 _ c.add_copy.new.room _
-    (c.args.room.now + sums_weight c.args.sums.now) c.add_copy.new.room (sums_weight (run_added c.args.message.now c.args.run.now c.args.stack c.args.sums.now))
+    rw (p.1, p.2) (takes-along c.in_err-add_copy.field-0.0 _ _
+    (c.args.room.now + sums_weight c.args.sums.now) (sums_weight (run_added c.args.message.now c.args.run.now c.args.stack c.args.sums.now))
     (λ less. omega arith) c.in_err-add_copy.ensures)
 
 pub loop-number-preserved : goal.loop-number-preserved

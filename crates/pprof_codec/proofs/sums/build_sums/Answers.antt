@@ -62,7 +62,7 @@ returns-in_err-add_run c =
     let whole = ap sums_weight (sums-all message order c.in_ok-order.ensures) in
     let taken = c.loop-from.invariant.taken in
     let p = err_from_is_err_and c.from_residual-in_err-add_run.result c.from_residual-in_err-add_run.ensures.1 in
-    rw (p.1, p.2) (takes-along _ _ c.in_err-add_run.field-0.0 _ c.add_run.new.room _ c.args.room.now c.add_run.new.room (sums_weight (all_sums message))
+    rw (p.1, p.2) (takes-along c.in_err-add_run.field-0.0 _ _ c.args.room.now (sums_weight (all_sums message))
     (λ less. omega arith) c.in_err-add_run.ensures)
 
 pub loop-from-preserved : goal.loop-from-preserved

@@ -27,6 +27,6 @@ unfolding text_faults
 returns-in_err-name c =
     let p = err_from_is_err_and c.from_residual-in_err-name.result c.from_residual-in_err-name.ensures.1 in
     rw (p.1, p.2)
-    (judged-part _ _ _ _ c.in_err-name.field-0.0
+    (judged-part _ _ c.in_err-name.field-0.0
     (λ fault here. shown-first (λ (text : Bor (List ℕ)). text.now) faults_of_text c.args.texts.now c.loop-number.number _ fault (omega arith) c.loop-number.invariant.judged here)
     c.in_err-name.ensures)

@@ -2,7 +2,7 @@ use Rattle.std.proofs.Common.{refl, ◌∙◌, arith}
 use Rattle.pprof_message.specs.declared.lists.Function.{Function}
 use Rattle.pprof_codec.specs.Frames.{function_frame}
 use Rattle.pprof_codec.specs.Checks.{faults_of_function, function_faults}
-use Rattle.pprof_codec.proofs.FaultLemmas.{judged-err, shown-push, shown-all, each-all}
+use Rattle.pprof_codec.proofs.FaultLemmas.{shown-push, shown-all, each-all}
 use Rattle.pprof_codec.proofs.MemberLemmas.{own_faults, member-first, member-kept, function-new_id}
 use Rattle.pprof_codec.proofs.functions.Functions.read.Goals as goal
 
@@ -12,9 +12,8 @@ push-requires c = function-new_id c.args.names.now c.loop-number.ids c.loop-numb
 pub returns-in-Some : goal.returns-in-Some
 unfolding function_faults
 returns-in-Some c =
-    judged-err _ (function_faults c.args.names.now c.args.functions.now) c.in-Some.fault
-    (member-first (λ (f : Function). f.id) (faults_of_function c.args.names.now) c.args.functions.now c.loop-number.ids c.loop-number.number _ c.function_fault.result c.in-Some.fault
-    (omega arith) c.loop-number.invariant.known c.loop-number.invariant.judged c.function_fault.ensures c.in-Some.is)
+    member-first (λ (f : Function). f.id) (faults_of_function c.args.names.now) c.args.functions.now c.loop-number.ids c.loop-number.number _ c.function_fault.result c.in-Some.fault
+    (omega arith) c.loop-number.invariant.known c.loop-number.invariant.judged c.function_fault.ensures c.in-Some.is
 
 pub loop-number-preserved : goal.loop-number-preserved
 loop-number-preserved c = record {

@@ -2,7 +2,7 @@ use Rattle.std.proofs.Common.{refl, ◌∙◌, arith}
 use Rattle.pprof_message.specs.Pprof.{Location}
 use Rattle.pprof_codec.specs.Frames.{location_frames}
 use Rattle.pprof_codec.specs.Checks.{faults_of_location, location_faults}
-use Rattle.pprof_codec.proofs.FaultLemmas.{judged-err, read-push, shown-all, each-all}
+use Rattle.pprof_codec.proofs.FaultLemmas.{read-push, shown-all, each-all}
 use Rattle.pprof_codec.proofs.MemberLemmas.{own_faults, member-read_first, member-read_kept, location-new_id}
 use Rattle.pprof_codec.proofs.locations.Locations.read.Goals as goal
 
@@ -14,9 +14,8 @@ push-requires c =
 pub returns-in-Some : goal.returns-in-Some
 unfolding location_faults
 returns-in-Some c =
-    judged-err _ (location_faults c.args.message.now) c.in-Some.fault
-    (member-read_first (λ (l : Location). l.id) (faults_of_location c.args.message.now) c.args.message.now.locations c.loop-number.ids c.loop-number.number _ c.location_fault.result c.in-Some.fault
-    c.location-location.ensures c.loop-number.invariant.known c.loop-number.invariant.judged (c.location_fault.ensures c.args.message.now c.requires.functions) c.in-Some.is)
+    member-read_first (λ (l : Location). l.id) (faults_of_location c.args.message.now) c.args.message.now.locations c.loop-number.ids c.loop-number.number _ c.location_fault.result c.in-Some.fault
+    c.location-location.ensures c.loop-number.invariant.known c.loop-number.invariant.judged (c.location_fault.ensures c.args.message.now c.requires.functions) c.in-Some.is
 
 pub loop-number-preserved : goal.loop-number-preserved
 loop-number-preserved c = record {

@@ -10,11 +10,10 @@ use Rattle.profile_model.specs.Stacks.{IsFrame, IsStack}
 use Rattle.profile_model.specs.Sums.{Sample, total_of, sums_of}
 use Rattle.folded_reader.specs.Lines.{frames_of, IsCutAtLastSpace, IsCount, Says, IsSample, SaysNothing, SaysNoStack, AreNoStack, PassesLimit, IsFaultOfLine}
 use Rattle.folded_reader.specs.Folded.{filled, lines_of, AreSamples, IsSumOf, IsFirstFault, IsGzip, IsText, IsRead}
-use Rattle.folded_reader.specs.Laws.{AreSameAnswers}
 use Rattle.folded_reader.specs.declared.line.LineForm.{LineForm}
 use Rattle.folded_reader.specs.declared.line.LineForm.TheVariants.{Counted, Bare}
 use Rattle.folded_reader.specs.declared.fault.FoldedFault.{FoldedFault}
-use Rattle.folded_reader.specs.declared.fault.FoldedFault.TheVariants.{NoCount, BadCount, EmptyFrame, TooLarge, TooDeep, NotUtf8, Compressed, LongFrame, Memory}
+use Rattle.folded_reader.specs.declared.fault.FoldedFault.TheVariants.{NoCount, BadCount, EmptyFrame, TooLarge, TooDeep, NotUtf8, Compressed, LongFrame}
 use Rattle.folded_reader.proofs.ReaderLemmas.{has_bytes_test}
 use Rattle.folded_reader.proofs.SumLemmas.{total-cons, total-append}
 
@@ -247,17 +246,16 @@ data Kind (form : LineForm) (body : List ℕ) (r : Result (List Sample) FoldedFa
   summed : (sums : List Sample) → r ≡ Ok sums → IsText body → IsSumOf form (lines_of body) sums → Kind form body r
   faulty : (fault : FoldedFault) → r ≡ Err fault → IsText body → IsFirstFault form (lines_of body) fault → Kind form body r
 
-kind_of : (form : LineForm) (body : List ℕ) (r : Result (List Sample) FoldedFault) → r ≢ Err Memory → IsRead form body r → Kind form body r
-kind_of form body (Ok sums) answered h = summed sums refl h.0 h.1
-kind_of form body (Err Memory) answered h = absurd (answered refl)
-kind_of form body (Err Compressed) answered h = packed refl h
-kind_of form body (Err (NotUtf8 at)) answered h = broken at refl h.0 h.1 h.2
-kind_of form body (Err (NoCount n)) answered h = faulty (NoCount n) refl h.0 h.1
-kind_of form body (Err (BadCount n)) answered h = faulty (BadCount n) refl h.0 h.1
-kind_of form body (Err (EmptyFrame n)) answered h = faulty (EmptyFrame n) refl h.0 h.1
-kind_of form body (Err (TooLarge n)) answered h = faulty (TooLarge n) refl h.0 h.1
-kind_of form body (Err (TooDeep n)) answered h = faulty (TooDeep n) refl h.0 h.1
-kind_of form body (Err (LongFrame n)) answered h = faulty (LongFrame n) refl h.0 h.1
+kind_of : (form : LineForm) (body : List ℕ) (r : Result (List Sample) FoldedFault) → IsRead form body r → Kind form body r
+kind_of form body (Ok sums) h = summed sums refl h.0 h.1
+kind_of form body (Err Compressed) h = packed refl h
+kind_of form body (Err (NotUtf8 at)) h = broken at refl h.0 h.1 h.2
+kind_of form body (Err (NoCount n)) h = faulty (NoCount n) refl h.0 h.1
+kind_of form body (Err (BadCount n)) h = faulty (BadCount n) refl h.0 h.1
+kind_of form body (Err (EmptyFrame n)) h = faulty (EmptyFrame n) refl h.0 h.1
+kind_of form body (Err (TooLarge n)) h = faulty (TooLarge n) refl h.0 h.1
+kind_of form body (Err (TooDeep n)) h = faulty (TooDeep n) refl h.0 h.1
+kind_of form body (Err (LongFrame n)) h = faulty (LongFrame n) refl h.0 h.1
 
 kinds_same : (form : LineForm) (body : List ℕ) (a b : Result (List Sample) FoldedFault) → Kind form body a → Kind form body b → a ≡ b
 kinds_same form body a b (packed is gzip) (packed is' gzip') = is ∙ sym is'
@@ -280,6 +278,6 @@ kinds_same form body a b (faulty f is text h) (summed s is' text' h') = absurd (
 kinds_same form body a b (faulty f is text h) (faulty g is' text' h') = is ∙ ap Err (first_same form (lines_of body) f g h h') ∙ sym is'
 
 pub one_answer : (form : LineForm) (body : List ℕ) (first second : Result (List Sample) FoldedFault) → IsRead form body first → IsRead form body second
-    → AreSameAnswers first second
-one_answer form body first second h k answered answered' =
-    kinds_same form body first second (kind_of form body first answered h) (kind_of form body second answered' k)
+    → first ≡ second
+one_answer form body first second h k =
+    kinds_same form body first second (kind_of form body first h) (kind_of form body second k)

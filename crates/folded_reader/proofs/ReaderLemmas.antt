@@ -5,25 +5,17 @@ use Rattle.std.specs.List.{AllZip}
 use Rattle.std.proofs.lemmas.Bool.Decides.{nat_tests}
 use Rattle.std.proofs.lemmas.List.{append-nil}
 use Rattle.std.proofs.lemmas.List.Elements.{filter-append}
+use Rattle.faults.specs.Answers.{IfAnswered, IfFault}
+use Rattle.faults.specs.declared.refused.Refused.{Refused}
+use Rattle.faults.specs.declared.refused.Refused.TheVariants.{Fault, Memory}
 use Rattle.profile_model.specs.Sums.{Sample, total_of, with_added}
-use Rattle.folded_reader.specs.Lines.{IsSample, IsFaultOfLine, OrMemory}
+use Rattle.folded_reader.specs.Lines.{IsSample, IsFaultOfLine}
 use Rattle.folded_reader.specs.Folded.{filled, IsSumOf, IsFirstFault, IsText, IsRead, lines_of}
 use Rattle.folded_reader.specs.declared.line.LineForm.{LineForm}
 use Rattle.folded_reader.specs.declared.line.LineForm.TheVariants.{Counted, Bare}
 use Rattle.folded_reader.specs.declared.fault.FoldedFault.{FoldedFault}
-use Rattle.folded_reader.specs.declared.fault.FoldedFault.TheVariants.{NoCount, BadCount, EmptyFrame, TooLarge, TooDeep, NotUtf8, Compressed, LongFrame, Memory}
+use Rattle.folded_reader.specs.declared.fault.FoldedFault.TheVariants.{NoCount, BadCount, EmptyFrame, TooLarge, TooDeep, NotUtf8, Compressed, LongFrame}
 use Rattle.folded_reader.proofs.SumLemmas.{total-sums_of, sums_of-push, total-push}
-
-pub OrMemory-weaker : {P Q : Type 0} (fault : FoldedFault) → (P → Q) → OrMemory fault P → OrMemory fault Q
-OrMemory-weaker Memory f h = tt
-OrMemory-weaker (NoCount n) f h = f h
-OrMemory-weaker (BadCount n) f h = f h
-OrMemory-weaker (EmptyFrame n) f h = f h
-OrMemory-weaker (TooLarge n) f h = f h
-OrMemory-weaker (TooDeep n) f h = f h
-OrMemory-weaker (NotUtf8 n) f h = f h
-OrMemory-weaker Compressed f h = f h
-OrMemory-weaker (LongFrame n) f h = f h
 
 AllZip-pushed : {A B : Type 0} (R : A → B → Type 0) (xs : List A) (ys : List B) (x : A) (y : B) → AllZip R xs ys → R x y → AllZip R (xs ++ x ∷ []) (ys ++ y ∷ [])
 AllZip-pushed R [] [] x y all one = (one, tt)
@@ -98,15 +90,15 @@ not_of_body Bare n total line = (
 )
 
 -- what reading the lines of a text answers is what reading the body answers
-pub read_text : (form : LineForm) (body : List ℕ) (r : Result (List Sample) FoldedFault) → IsText body
-    → MatchResult r (IsSumOf form (lines_of body)) (λ fault. OrMemory fault (IsFirstFault form (lines_of body) fault)) → IsRead form body r
+pub read_text : (form : LineForm) (body : List ℕ) (r : Result (List Sample) (Refused FoldedFault)) → IsText body
+    → MatchResult r (IsSumOf form (lines_of body)) (IfFault (IsFirstFault form (lines_of body))) → IfAnswered (IsRead form body) r
 read_text form body (Ok sums) text h = (text, h)
 read_text form body (Err Memory) text h = tt
-read_text form body (Err (NoCount n)) text h = (text, h)
-read_text form body (Err (BadCount n)) text h = (text, h)
-read_text form body (Err (EmptyFrame n)) text h = (text, h)
-read_text form body (Err (TooLarge n)) text h = (text, h)
-read_text form body (Err (TooDeep n)) text h = (text, h)
-read_text form body (Err (LongFrame n)) text h = (text, h)
-read_text form body (Err (NotUtf8 at)) text h = absurd ((not_of_body form (length h.before + 1) (total_of h.samples) h.line).0 at h.here)
-read_text form body (Err Compressed) text h = absurd ((not_of_body form (length h.before + 1) (total_of h.samples) h.line).1 h.here)
+read_text form body (Err (Fault (NoCount n))) text h = (text, h)
+read_text form body (Err (Fault (BadCount n))) text h = (text, h)
+read_text form body (Err (Fault (EmptyFrame n))) text h = (text, h)
+read_text form body (Err (Fault (TooLarge n))) text h = (text, h)
+read_text form body (Err (Fault (TooDeep n))) text h = (text, h)
+read_text form body (Err (Fault (LongFrame n))) text h = (text, h)
+read_text form body (Err (Fault (NotUtf8 at))) text h = absurd ((not_of_body form (length h.before + 1) (total_of h.samples) h.line).0 at h.here)
+read_text form body (Err (Fault Compressed)) text h = absurd ((not_of_body form (length h.before + 1) (total_of h.samples) h.line).1 h.here)

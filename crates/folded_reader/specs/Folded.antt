@@ -7,7 +7,7 @@ use Rattle.folded_reader.specs.Lines.{IsSample, IsFaultOfLine}
 use Rattle.folded_reader.specs.declared.line.LineForm.{LineForm}
 use Rattle.folded_reader.specs.declared.line.LineForm.TheVariants.{Counted, Bare}
 use Rattle.folded_reader.specs.declared.fault.FoldedFault.{FoldedFault}
-use Rattle.folded_reader.specs.declared.fault.FoldedFault.TheVariants.{NotUtf8, Compressed, Memory}
+use Rattle.folded_reader.specs.declared.fault.FoldedFault.TheVariants.{NotUtf8, Compressed}
 
 -- the lines of a body, which stand between its newlines. The rest after the last newline is one too:
 -- where it has no byte it says nothing, as any line without bytes.
@@ -52,7 +52,6 @@ pub record IsText (body : List ℕ) : Type 0 where
 -- what reading a body answers: the sums, or the first fault
 abbrev pub IsRead : LineForm → List ℕ → Result (List Sample) FoldedFault → Type 0
 IsRead form body (Ok sums) = IsText body × IsSumOf form (lines_of body) sums
-IsRead form body (Err Memory) = Unit {0}
 IsRead form body (Err Compressed) = IsGzip body
 IsRead form body (Err (NotUtf8 at)) = (¬ (IsGzip body)) × (¬ (IsUtf8 body)) × IsValidUpTo body at
 IsRead form body (Err fault) = IsText body × IsFirstFault form (lines_of body) fault

@@ -1,12 +1,10 @@
 -- What holds of folded text, read and written.
-use Rattle.std.specs.Prelude.{◌≡◌, ◌≢◌, ℕ, ◌≤◌, List, Result, Ok, Err}
+use Rattle.std.specs.Prelude.{◌≢◌, ℕ, ◌≤◌, List, Ok}
 use Rattle.std.specs.List.{All}
 use Rattle.std.specs.Map.{keys_of}
 use Rattle.std.specs.Str.{IsUtf8}
 use Rattle.profile_model.specs.Stacks.{IsStack}
 use Rattle.profile_model.specs.Sums.{Sample, AreSums}
-use Rattle.folded_reader.specs.declared.fault.FoldedFault.{FoldedFault}
-use Rattle.folded_reader.specs.declared.fault.FoldedFault.TheVariants.{Memory}
 use Rattle.folded_reader.specs.Folded.{IsReadFolded}
 use Rattle.folded_reader.specs.Written.{written_text}
 
@@ -19,7 +17,3 @@ pub record IsPlain (stack : List (List ℕ)) : Type 0 where
 -- what is written of sums with such stacks is read back to the same sums
 abbrev pub IsReadBack : List Sample → Type 0
 IsReadBack sums = AreSums sums → All IsPlain (keys_of sums) → IsReadFolded (written_text sums) (Ok sums)
-
--- the same answer, apart from want of memory
-abbrev pub AreSameAnswers : Result (List Sample) FoldedFault → Result (List Sample) FoldedFault → Type 0
-AreSameAnswers first second = first ≢ Err Memory → second ≢ Err Memory → first ≡ second

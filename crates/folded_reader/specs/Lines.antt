@@ -8,7 +8,7 @@ use Rattle.profile_model.specs.Sums.{Sample}
 use Rattle.folded_reader.specs.declared.line.LineForm.{LineForm}
 use Rattle.folded_reader.specs.declared.line.LineForm.TheVariants.{Counted, Bare}
 use Rattle.folded_reader.specs.declared.fault.FoldedFault.{FoldedFault}
-use Rattle.folded_reader.specs.declared.fault.FoldedFault.TheVariants.{NoCount, BadCount, EmptyFrame, TooLarge, TooDeep, LongFrame, Memory}
+use Rattle.folded_reader.specs.declared.fault.FoldedFault.TheVariants.{NoCount, BadCount, EmptyFrame, TooLarge, TooDeep, LongFrame}
 
 -- the frames of a stack's text, which stand between its ';'
 abbrev pub frames_of : List ℕ → List (List ℕ)
@@ -68,8 +68,3 @@ PassesLimit form n total line fault = ⊥
 abbrev pub IsFaultOfLine : LineForm → ℕ → ℕ → List ℕ → FoldedFault → Type 0
 IsFaultOfLine form n total line fault =
     SaysNothing form n line fault ⊎ (SaysNoStack form n line fault ⊎ PassesLimit form n total line fault)
-
--- memory ran out, or P holds
-abbrev pub OrMemory : FoldedFault → Type 0 → Type 0
-OrMemory Memory P = Unit {0}
-OrMemory fault P = P

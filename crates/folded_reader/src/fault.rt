@@ -1,9 +1,10 @@
 // Why a body is no folded text.
-ghost use Rattle.std.specs.Prelude.{◌≡◌, option_map};
-ghost use Rattle.folded_reader.specs.declared.fault.FoldedFault.TheVariants.{Memory};
+ghost use Rattle.std.specs.Prelude.{◌≡◌};
+ghost use Rattle.faults.specs.Places.{numbers_of};
+ghost use Rattle.faults.specs.declared.refused.Refused.TheVariants.{Fault};
 ghost use Rattle.folded_reader.specs.Faults.{code_of, place_of};
 
-use std::alloc::{AllocError, AllocFailed};
+use faults::{Place, Refused};
 use std::error::Error;
 use std::fmt;
 
@@ -25,30 +26,28 @@ pub enum FoldedFault {
     Compressed,
     /// A frame has more bytes than a name may have.
     LongFrame(u64),
-    Memory,
 }
 
 impl FoldedFault {
-    /// The code that stands for the fault in a reply. Want of memory has none.
-    pub fn code(&self) -> Option<&'static str>
-        ensures { option_map (λ code. code.now) result ≡ code_of self.now }
+    /// The code that stands for the fault in a reply.
+    pub fn code(&self) -> &'static str
+        ensures { result.now ≡ code_of self.now }
     {
         match self {
-            FoldedFault::NoCount(_) => Some("F1"),
-            FoldedFault::BadCount(_) => Some("F2"),
-            FoldedFault::EmptyFrame(_) => Some("F3"),
-            FoldedFault::TooLarge(_) => Some("F4"),
-            FoldedFault::TooDeep(_) => Some("F5"),
-            FoldedFault::NotUtf8(_) => Some("F6"),
-            FoldedFault::Compressed => Some("F7"),
-            FoldedFault::LongFrame(_) => Some("F8"),
-            FoldedFault::Memory => None,
+            FoldedFault::NoCount(_) => "F1",
+            FoldedFault::BadCount(_) => "F2",
+            FoldedFault::EmptyFrame(_) => "F3",
+            FoldedFault::TooLarge(_) => "F4",
+            FoldedFault::TooDeep(_) => "F5",
+            FoldedFault::NotUtf8(_) => "F6",
+            FoldedFault::Compressed => "F7",
+            FoldedFault::LongFrame(_) => "F8",
         }
     }
 
-    /// The number of the line, or the place of the byte.
-    pub fn place(&self) -> Option<u64>
-        ensures { result ≡ place_of self.now }
+    /// The number of the line, or the place of the byte. A compressed body has none.
+    pub fn place(&self) -> Place
+        ensures { numbers_of result ≡ place_of self.now }
     {
         match self {
             FoldedFault::NoCount(line)
@@ -56,9 +55,9 @@ impl FoldedFault {
             | FoldedFault::EmptyFrame(line)
             | FoldedFault::TooLarge(line)
             | FoldedFault::TooDeep(line)
-            | FoldedFault::LongFrame(line) => Some(*line),
-            FoldedFault::NotUtf8(at) => Some(*at as u64),
-            FoldedFault::Compressed | FoldedFault::Memory => None,
+            | FoldedFault::LongFrame(line) => Place::At(*line),
+            FoldedFault::NotUtf8(at) => Place::At(*at as u64),
+            FoldedFault::Compressed => Place::Whole,
         }
     }
 }
@@ -74,25 +73,16 @@ impl fmt::Display for FoldedFault {
             FoldedFault::NotUtf8(at) => write!(f, "no UTF-8 at byte {at}"),
             FoldedFault::Compressed => write!(f, "the body is compressed"),
             FoldedFault::LongFrame(line) => write!(f, "line {line} has a frame that is too long"),
-            FoldedFault::Memory => write!(f, "out of memory"),
         }
     }
 }
 
 impl Error for FoldedFault {}
 
-impl From<AllocError> for FoldedFault {
-    ghost from_gives = { λ _ fault. fault ≡ Memory };
+impl From<FoldedFault> for Refused<FoldedFault> {
+    ghost from_gives = { λ fault refused. refused ≡ Fault fault };
 
-    fn from(_error: AllocError) -> FoldedFault {
-        FoldedFault::Memory
-    }
-}
-
-impl<T: Drop> From<AllocFailed<T>> for FoldedFault {
-    ghost from_gives = { λ _ fault. fault ≡ Memory };
-
-    fn from(_error: AllocFailed<T>) -> FoldedFault {
-        FoldedFault::Memory
+    fn from(fault: FoldedFault) -> Refused<FoldedFault> {
+        Refused::Fault(fault)
     }
 }

@@ -1,13 +1,15 @@
 // Folded text to sums.
 ghost use Rattle.std.specs.Prelude.{◌≡◌, ◌+◌, ◌^◌, ◌<◌, MatchResult};
 ghost use Rattle.profile_model.specs.Sums.{Sample, total_of, with_added};
-ghost use Rattle.folded_reader.specs.Lines.{IsSample, IsFaultOfLine, OrMemory};
+ghost use Rattle.faults.specs.Answers.{IfAnswered, IfFault};
+ghost use Rattle.folded_reader.specs.Lines.{IsSample, IsFaultOfLine};
 ghost use Rattle.folded_reader.specs.Folded.{IsReadFolded, IsReadLines, IsRead, IsText, IsSumOf, IsFirstFault, lines_of};
 
 use crate::FoldedFault;
 use crate::frames::depth_of;
 use crate::interner::Interner;
 use crate::line::{LineForm, cut};
+use faults::Refused;
 use profile_model::{AddFault, StackSums};
 use std::alloc::Global;
 
@@ -17,34 +19,38 @@ const GZIP: [u8; 2] = [0x1F, 0x8B];
 /// The sums of a body whose lines are a stack, a space and a count: the folded stacks of Brendan Gregg's flame graph tools.
 /// A stack's frames stand from the root, joined by `;`. A line without bytes says nothing, equal stacks are summed,
 /// and a count of 0 is dropped. The error is the body's own fault, or else that of the first line that has one.
-pub fn read_folded(alloc: Global, bytes: &[u8]) -> Result<StackSums, FoldedFault>
-    ensures read { IsReadFolded bytes.now result }
+pub fn read_folded(alloc: Global, bytes: &[u8]) -> Result<StackSums, Refused<FoldedFault>>
+    ensures read { IfAnswered (IsReadFolded bytes.now) result }
 {
     read(alloc, bytes, LineForm::Counted)
 }
 
 /// The sums of a body whose lines are stacks, each of which counts once. All else is as in `read_folded`.
-pub fn read_lines(alloc: Global, bytes: &[u8]) -> Result<StackSums, FoldedFault>
-    ensures read { IsReadLines bytes.now result }
+pub fn read_lines(alloc: Global, bytes: &[u8]) -> Result<StackSums, Refused<FoldedFault>>
+    ensures read { IfAnswered (IsReadLines bytes.now) result }
 {
     read(alloc, bytes, LineForm::Bare)
 }
 
-fn read(alloc: Global, bytes: &[u8], form: LineForm) -> Result<StackSums, FoldedFault>
-    ensures { IsRead form bytes.now result }
+fn read(alloc: Global, bytes: &[u8], form: LineForm) -> Result<StackSums, Refused<FoldedFault>>
+    ensures { IfAnswered (IsRead form bytes.now) result }
 {
     if bytes.starts_with(&GZIP) {
-        return Err(FoldedFault::Compressed);
+        return Err(Refused::Fault(FoldedFault::Compressed));
     }
     match str::from_utf8(bytes) {
         Ok(text) => sums_of_text(alloc, text, form),
-        Err(fault) => Err(FoldedFault::NotUtf8(fault.valid_up_to())),
+        Err(fault) => Err(Refused::Fault(FoldedFault::NotUtf8(fault.valid_up_to()))),
     }
 }
 
-fn sums_of_text(alloc: Global, text: &str, form: LineForm) -> Result<StackSums, FoldedFault>
+fn sums_of_text(
+    alloc: Global,
+    text: &str,
+    form: LineForm,
+) -> Result<StackSums, Refused<FoldedFault>>
     ensures { MatchResult result
-        (IsSumOf form (lines_of text.now)) (λ fault. OrMemory fault (IsFirstFault form (lines_of text.now) fault)) }
+        (IsSumOf form (lines_of text.now)) (IfFault (IsFirstFault form (lines_of text.now))) }
 {
     let mut names = Interner::new(alloc);
     let mut sums = StackSums::new(alloc);
@@ -66,18 +72,18 @@ fn add_line<'a>(
     form: LineForm,
     line: &'a str,
     number: u64,
-) -> Result<(), FoldedFault>
+) -> Result<(), Refused<FoldedFault>>
     ensures { MatchResult result
         (λ _. (sample : Sample) × IsSample form line.now sample × (total_of sums.old + sample.1 < 2 ^ 63)
         × (sums.new ≡ with_added sums.old sample.0 sample.1))
-        (λ fault. OrMemory fault (IsFaultOfLine form number (total_of sums.old) line.now fault)) }
+        (IfFault (IsFaultOfLine form number (total_of sums.old) line.now)) }
 {
     let (text, count) = cut(form, line, number)?;
     let depth = depth_of(text, number)?;
     let stack = names.stack(alloc, text, depth)?;
     match sums.add(stack, count) {
         Ok(()) => Ok(()),
-        Err(AddFault::Sum) => Err(FoldedFault::TooLarge(number)),
-        Err(AddFault::Memory) => Err(FoldedFault::Memory),
+        Err(Refused::Fault(AddFault::Sum)) => Err(Refused::Fault(FoldedFault::TooLarge(number))),
+        Err(Refused::Memory) => Err(Refused::Memory),
     }
 }

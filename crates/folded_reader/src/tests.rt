@@ -1,4 +1,5 @@
 use crate::{FoldedFault, read_folded, read_lines, write_folded};
+use faults::{Place, Refused};
 use profile_model::{Name, Stack, StackSums};
 use std::alloc::{AllocError, Global};
 use std::sync::ArcSlice;
@@ -16,11 +17,11 @@ fn says(alloc: Global, body: &str, text: &str) -> Result<bool, Fail> {
     are_written(alloc, &sums, text.as_bytes())
 }
 
-fn fault_of(alloc: Global, body: &[u8]) -> Option<FoldedFault> {
+fn fault_of(alloc: Global, body: &[u8]) -> Option<Refused<FoldedFault>> {
     read_folded(alloc, body).err()
 }
 
-fn fault_of_lines(alloc: Global, body: &[u8]) -> Option<FoldedFault> {
+fn fault_of_lines(alloc: Global, body: &[u8]) -> Option<Refused<FoldedFault>> {
     read_lines(alloc, body).err()
 }
 
@@ -113,7 +114,11 @@ fn the_first_fault_is_told(rt: HostRuntime) {
         ("a 1\n;c x\nb\n", FoldedFault::BadCount(2)),
         ("a 9223372036854775807\n; 1\n", FoldedFault::EmptyFrame(2)),
     ] {
-        assert_eq!(rt; fault_of(alloc, body.as_bytes()), Some(fault), "{body}");
+        assert_eq!(rt;
+            fault_of(alloc, body.as_bytes()),
+            Some(Refused::Fault(fault)),
+            "{body}"
+        );
     }
 }
 
@@ -122,19 +127,19 @@ fn a_body_that_is_no_text_is_refused(rt: HostRuntime) {
     let alloc = rt.alloc();
     assert_eq!(rt;
         fault_of(alloc, b"\x1f\x8b\x08"),
-        Some(FoldedFault::Compressed)
+        Some(Refused::Fault(FoldedFault::Compressed))
     );
     assert_eq!(rt;
         fault_of_lines(alloc, b"\x1f\x8b"),
-        Some(FoldedFault::Compressed)
+        Some(Refused::Fault(FoldedFault::Compressed))
     );
     assert_eq!(rt;
         fault_of(alloc, b"a\nb 1\n\xff"),
-        Some(FoldedFault::NotUtf8(6))
+        Some(Refused::Fault(FoldedFault::NotUtf8(6)))
     );
     assert_eq!(rt;
         fault_of_lines(alloc, b"ab\xc3"),
-        Some(FoldedFault::NotUtf8(2))
+        Some(Refused::Fault(FoldedFault::NotUtf8(2)))
     );
 }
 
@@ -155,7 +160,10 @@ fn count_of_stacks(alloc: Global, parts: &[(&str, u32)]) -> Result<usize, Fail> 
     Ok(sums.len())
 }
 
-fn fault_of_repeated(alloc: Global, parts: &[(&str, u32)]) -> Result<Option<FoldedFault>, Fail> {
+fn fault_of_repeated(
+    alloc: Global,
+    parts: &[(&str, u32)],
+) -> Result<Option<Refused<FoldedFault>>, Fail> {
     let body = repeated(alloc, parts)?;
     Ok(fault_of(alloc, body.as_bytes()))
 }
@@ -186,7 +194,10 @@ fn a_stack_may_be_deep_and_a_frame_long_up_to_a_limit(rt: HostRuntime) -> Result
         ),
     ];
     for (parts, fault) in cases {
-        assert_eq!(rt; fault_of_repeated(alloc, parts)?, Some(fault));
+        assert_eq!(rt;
+            fault_of_repeated(alloc, parts)?,
+            Some(Refused::Fault(fault))
+        );
     }
     Ok(())
 }
@@ -202,7 +213,7 @@ fn whole_lines_count_once_each(rt: HostRuntime) -> Result<(), Fail> {
     assert!(rt; lines_say(alloc, b"a;b\nc d 4\n\na;b", b"a;b 2\nc d 4 1\n")?);
     assert_eq!(rt;
         fault_of_lines(alloc, b"a\n\nb;;c"),
-        Some(FoldedFault::EmptyFrame(3))
+        Some(Refused::Fault(FoldedFault::EmptyFrame(3)))
     );
     Ok(())
 }
@@ -229,8 +240,8 @@ fn separators_and_control_bytes_in_frames_are_replaced(rt: HostRuntime) -> Resul
     Ok(())
 }
 
-fn reads(alloc: Global, fault: FoldedFault, text: &str) -> Result<bool, Fail> {
-    let words = fault.to_string(alloc)?;
+fn reads(alloc: Global, refused: Refused<FoldedFault>, text: &str) -> Result<bool, Fail> {
+    let words = refused.to_string(alloc)?;
     Ok(words.as_str() == text)
 }
 
@@ -240,57 +251,57 @@ fn faults_have_codes_places_and_texts(rt: HostRuntime) -> Result<(), Fail> {
     for (fault, code, place, text) in [
         (
             FoldedFault::NoCount(1),
-            Some("F1"),
-            Some(1),
+            "F1",
+            Place::At(1),
             "line 1 has no count",
         ),
         (
             FoldedFault::BadCount(2),
-            Some("F2"),
-            Some(2),
+            "F2",
+            Place::At(2),
             "line 2 ends in no count",
         ),
         (
             FoldedFault::EmptyFrame(3),
-            Some("F3"),
-            Some(3),
+            "F3",
+            Place::At(3),
             "line 3 has an empty frame",
         ),
         (
             FoldedFault::TooLarge(4),
-            Some("F4"),
-            Some(4),
+            "F4",
+            Place::At(4),
             "the counts up to line 4 are too large",
         ),
         (
             FoldedFault::TooDeep(5),
-            Some("F5"),
-            Some(5),
+            "F5",
+            Place::At(5),
             "line 5 has too many frames",
         ),
         (
             FoldedFault::NotUtf8(6),
-            Some("F6"),
-            Some(6),
+            "F6",
+            Place::At(6),
             "no UTF-8 at byte 6",
         ),
         (
             FoldedFault::Compressed,
-            Some("F7"),
-            None,
+            "F7",
+            Place::Whole,
             "the body is compressed",
         ),
         (
             FoldedFault::LongFrame(8),
-            Some("F8"),
-            Some(8),
+            "F8",
+            Place::At(8),
             "line 8 has a frame that is too long",
         ),
-        (FoldedFault::Memory, None, None, "out of memory"),
     ] {
         assert_eq!(rt; fault.code(), code);
         assert_eq!(rt; fault.place(), place);
-        assert!(rt; reads(alloc, fault, text)?, "{text}");
+        assert!(rt; reads(alloc, Refused::Fault(fault), text)?, "{text}");
     }
+    assert!(rt; reads(alloc, Refused::Memory, "out of memory")?);
     Ok(())
 }

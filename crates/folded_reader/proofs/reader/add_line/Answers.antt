@@ -14,8 +14,8 @@ returns-in-Ok c = (
   c.in-Ok.ensures.ok,
 )
 
-pub returns-in-Err-Sum : goal.returns-in-Err-Sum
-returns-in-Err-Sum c =
+pub returns-in-Err-Fault-Sum : goal.returns-in-Err-Fault-Sum
+returns-in-Err-Fault-Sum c =
     inr (inr (
       refl,
       (c.in_ok-stack.stack, c.in_ok-text.count),
@@ -25,5 +25,5 @@ returns-in-Err-Sum c =
         frames = c.in_ok-stack.ensures;
         stack = rw c.in_ok-stack.ensures c.in_ok-depth.ensures.1;
       },
-      c.in-Err-Sum.ensures.sum (search rules),
+      c.in-Err-Fault-Sum.ensures.sum (search rules),
     ))

@@ -4,7 +4,8 @@ use Rattle.std.proofs.lemmas.Result.{err_from_is_err_and}
 use Rattle.folded_reader.specs.Folded.{IsSumOf, lines_of}
 use Rattle.folded_reader.proofs.SplitLemmas.{part_turn, part_end}
 use Rattle.folded_reader.proofs.FrameLemmas.{empty_from_test, named_from_test}
-use Rattle.folded_reader.proofs.ReaderLemmas.{OrMemory-weaker, skipped, taken, first_fault}
+use Rattle.faults.proofs.AnswerLemmas.{IfFault-weaker}
+use Rattle.folded_reader.proofs.ReaderLemmas.{skipped, taken, first_fault}
 use Rattle.folded_reader.proofs.reader.sums_of_text.Goals as goal
 
 pub returns : goal.returns
@@ -22,9 +23,9 @@ returns-in_err-add_line c =
     let number = c.loop-line.invariant.counted in
     let count = turn.count in
     rw (p.1, p.2)
-    (OrMemory-weaker c.in_err-add_line.field-0.0
-    (first_fault c.args.form (lines_of c.args.text.now) before c.in-Some.line.now _ c.loop-line.sums (c.loop-line.number + 1) c.in_err-add_line.field-0.0 turn.cut
-    c.loop-line.invariant.summed (named_from_test _ _ c.is_empty.ensures c.if-is_empty.false) (omega arith))
+    (IfFault-weaker c.in_err-add_line.field-0.0
+    (λ fault here. first_fault c.args.form (lines_of c.args.text.now) before c.in-Some.line.now _ c.loop-line.sums (c.loop-line.number + 1) fault turn.cut
+    c.loop-line.invariant.summed (named_from_test _ _ c.is_empty.ensures c.if-is_empty.false) (omega arith) here)
     c.in_err-add_line.ensures)
 
 pub loop-line-preserved : goal.loop-line-preserved

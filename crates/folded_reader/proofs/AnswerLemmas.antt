@@ -1,11 +1,12 @@
 -- A body has one answer.
-use Rattle.std.proofs.Common.{◌≡◌, ◌≢◌, ◌⊎◌, inl, inr, ⊎_elim, ℕ, ◌+◌, ◌^◌, ◌<◌, List, [], ◌∷◌, ◌++◌, length, cond, Result, Ok, Err, refl, sym, ap, ◌∙◌, subst, arith}
+use Rattle.std.proofs.Common.{◌≡◌, ◌≢◌, ◌⊎◌, inl, inr, ⊎_elim, ℕ, ◌+◌, ◌<◌, List, [], ◌∷◌, ◌++◌, length, cond, Result, Ok, Err, refl, sym, ap, ◌∙◌, subst, arith}
 use Rattle.std.specs.Prelude.{nat_lt}
 use Rattle.std.specs.List.{All, Any, AllZip}
 use Rattle.std.specs.Str.{IsUtf8, IsValidUpTo}
 use Rattle.std.specs.Str.Parse.{digits_value}
 use Rattle.std.proofs.lemmas.List.Elements.{All-head, All-tail, filter-append}
 use Rattle.std.proofs.lemmas.Str.{utf8_valid_len-IsValidUpTo}
+use Rattle.profile_model.specs.Limits.{most_frame_bytes, total_bound}
 use Rattle.profile_model.specs.Stacks.{IsFrame, IsStack}
 use Rattle.profile_model.specs.Sums.{Sample, total_of, sums_of}
 use Rattle.folded_reader.specs.Lines.{frames_of, IsCutAtLastSpace, IsCount, Says, IsSample, SaysNothing, SaysNoStack, AreNoStack, PassesLimit, IsFaultOfLine}
@@ -69,7 +70,7 @@ frame_at frames Wrong refutes each any = refutes any.1 (subst IsFrame any.3 (eac
 stack_not_none : (n : ℕ) (frames : List (List ℕ)) (fault : FoldedFault) → IsStack frames → AreNoStack n frames fault → ⊥
 stack_not_none n frames (EmptyFrame at) h k = frame_at frames (λ f. length f ≡ 0) (λ f sized empty. let some = sized.0 in omega arith) h.each k.1
 stack_not_none n frames (TooDeep at) h k = let few = h.few in let deep = k.2 in omega arith
-stack_not_none n frames (LongFrame at) h k = frame_at frames (λ f. 65535 < length f) (λ f sized long. let few = sized.1 in omega arith) h.each k.3
+stack_not_none n frames (LongFrame at) h k = frame_at frames (λ f. most_frame_bytes < length f) (λ f sized long. let few = sized.1 in omega arith) h.each k.3
 stack_not_none n frames fault h k = k
 
 sample_not_none : (form : LineForm) (n : ℕ) (line : List ℕ) (sample : Sample) (fault : FoldedFault) → IsSample form line sample → SaysNoStack form n line fault → ⊥
@@ -77,14 +78,14 @@ sample_not_none form n line sample fault h k =
     let said = says_same form line h.text k.text sample.1 k.count h.says k.says in
     stack_not_none n (frames_of k.text) fault (subst IsStack (h.frames ∙ ap frames_of said.0) h.stack) k.no_stack
 
-sample_not_over : (form : LineForm) (n total : ℕ) (line : List ℕ) (sample : Sample) (fault : FoldedFault) → IsSample form line sample → total + sample.1 < 2 ^ 63
+sample_not_over : (form : LineForm) (n total : ℕ) (line : List ℕ) (sample : Sample) (fault : FoldedFault) → IsSample form line sample → total + sample.1 < total_bound
     → PassesLimit form n total line fault → ⊥
 sample_not_over form n total line sample (TooLarge at) h fits k =
     let same = ap (λ (s : Sample). s.1) (sample_same form line sample k.1 h k.2) in let over = k.3 in omega arith
 sample_not_over form n total line sample fault h fits k = k
 
 -- a line that says a sample within the limit has no fault
-sample_not_fault : (form : LineForm) (n total : ℕ) (line : List ℕ) (sample : Sample) (fault : FoldedFault) → IsSample form line sample → total + sample.1 < 2 ^ 63
+sample_not_fault : (form : LineForm) (n total : ℕ) (line : List ℕ) (sample : Sample) (fault : FoldedFault) → IsSample form line sample → total + sample.1 < total_bound
     → IsFaultOfLine form n total line fault → ⊥
 sample_not_fault form n total line sample fault h fits k =
     ⊎_elim (λ nothing. says_not_nothing form n line h.text sample.1 fault h.says nothing)

@@ -6,6 +6,7 @@ use Rattle.std.proofs.lemmas.Bool.Decides.{nat_tests}
 use Rattle.std.proofs.lemmas.List.{length_push, get_or_push, get_or_append_left}
 use Rattle.std.proofs.lemmas.List.Elements.{All-push, All-head, All-tail}
 use Rattle.std.specs.Prelude.{slice_get, IsSomeAnd}
+use Rattle.profile_model.specs.Limits.{most_frames, most_frame_bytes}
 use Rattle.profile_model.specs.Stacks.{IsFrame, IsStack}
 use Rattle.profile_model.specs.ReadStacks.{IsReadStack, IsFirstWrong}
 use Rattle.profile_model.specs.declared.stack.StackFault.{StackFault}
@@ -20,7 +21,7 @@ named_from_test b frame e t = grind (arith, nat_tests)
 
 -- where b says whether a frame is too long
 abbrev pub TellsLong : Bool → List (List ℕ) → Type 0
-TellsLong b frames = MatchBool b (Any (λ frame. 65535 < length frame) frames) (All (λ frame. length frame ≤ 65535) frames)
+TellsLong b frames = MatchBool b (Any (λ frame. most_frame_bytes < length frame) frames) (All (λ frame. length frame ≤ most_frame_bytes) frames)
 
 pub Any-push : {X : Type 0} (P : X → Type 0) (xs : List X) (x : X) → P x → Any P (xs ++ x ∷ [])
 Any-push P xs x p = let n = length_push xs x in (length xs, x, omega arith, get_or_push xs x x (length xs) refl, p)
@@ -28,12 +29,12 @@ Any-push P xs x p = let n = length_push xs x in (length xs, x, omega arith, get_
 pub Any-pushed : {X : Type 0} (P : X → Type 0) (xs : List X) (x : X) → Any P xs → Any P (xs ++ x ∷ [])
 Any-pushed P xs x h = let n = length_push xs x in (h.0, h.1, omega arith, get_or_append_left xs (x ∷ []) h.1 h.0 h.2 ∙ h.3, h.4)
 
-pub TellsLong-push : (b : Bool) (frames : List (List ℕ)) (frame : List ℕ) → length frame ≤ 65535 → TellsLong b frames → TellsLong b (frames ++ frame ∷ [])
-TellsLong-push true frames frame short h = Any-pushed (λ frame. 65535 < length frame) frames frame h
-TellsLong-push false frames frame short h = All-push (λ frame. length frame ≤ 65535) frames frame h short
+pub TellsLong-push : (b : Bool) (frames : List (List ℕ)) (frame : List ℕ) → length frame ≤ most_frame_bytes → TellsLong b frames → TellsLong b (frames ++ frame ∷ [])
+TellsLong-push true frames frame short h = Any-pushed (λ frame. most_frame_bytes < length frame) frames frame h
+TellsLong-push false frames frame short h = All-push (λ frame. length frame ≤ most_frame_bytes) frames frame h short
 
 -- frames of the right lengths, neither none nor too many, are a stack
-pub stack_of : (frames : List (List ℕ)) → 0 < length frames → length frames ≤ 1024 → All (λ frame. 0 < length frame) frames → All (λ frame. length frame ≤ 65535) frames → IsStack frames
+pub stack_of : (frames : List (List ℕ)) → 0 < length frames → length frames ≤ most_frames → All (λ frame. 0 < length frame) frames → All (λ frame. length frame ≤ most_frame_bytes) frames → IsStack frames
 stack_of frames some few named short = record {
   some = some;
   few = few;
@@ -56,4 +57,4 @@ pub read_stack : (frames : List (List ℕ)) (fault : StackFault) → IsStack fra
 read_stack frames NoFrames stack read = let none = ap length read in let some = stack.some in omega arith
 read_stack frames TooDeep stack read = let few = stack.few in omega arith
 read_stack frames (EmptyFrame at) stack read = wrong frames at (λ frame. length frame ≡ 0) (λ frame sized empty. let some = sized.0 in omega arith) stack read.1
-read_stack frames (LongFrame at) stack read = wrong frames at (λ frame. 65535 < length frame) (λ frame sized long. let few = sized.1 in omega arith) stack read.1
+read_stack frames (LongFrame at) stack read = wrong frames at (λ frame. most_frame_bytes < length frame) (λ frame sized long. let few = sized.1 in omega arith) stack read.1

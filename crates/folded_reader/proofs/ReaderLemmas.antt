@@ -1,5 +1,5 @@
 -- Reading line by line.
-use Rattle.std.proofs.Common.{◌≡◌, ⊎_elim, ℕ, ◌+◌, ◌^◌, ◌<◌, List, [], ◌∷◌, ◌++◌, length, true, false, cond, Result, Ok, Err, refl, sym, ap, ◌∙◌, subst, arith}
+use Rattle.std.proofs.Common.{◌≡◌, ⊎_elim, ℕ, ◌+◌, ◌<◌, List, [], ◌∷◌, ◌++◌, length, true, false, cond, Result, Ok, Err, refl, sym, ap, ◌∙◌, subst, arith}
 use Rattle.std.specs.Prelude.{nat_lt, MatchResult}
 use Rattle.std.specs.List.{AllZip}
 use Rattle.std.proofs.lemmas.Bool.Decides.{nat_tests}
@@ -8,6 +8,7 @@ use Rattle.std.proofs.lemmas.List.Elements.{filter-append}
 use Rattle.faults.specs.Answers.{IfAnswered, IfFault}
 use Rattle.faults.specs.declared.refused.Refused.{Refused}
 use Rattle.faults.specs.declared.refused.Refused.TheVariants.{Fault, Memory}
+use Rattle.profile_model.specs.Limits.{total_bound}
 use Rattle.profile_model.specs.Sums.{Sample, total_of, with_added}
 use Rattle.folded_reader.specs.Lines.{IsSample, IsFaultOfLine}
 use Rattle.folded_reader.specs.Folded.{filled, IsSumOf, IsFirstFault, IsText, IsRead, lines_of}
@@ -51,7 +52,7 @@ skipped form before line sums none h = record {
 
 -- a line that says a sample
 pub taken : (form : LineForm) (before : List (List ℕ)) (line : List ℕ) (old new : List Sample) (sample : Sample) → 0 < length line → IsSumOf form before old
-    → IsSample form line sample → total_of old + sample.1 < 2 ^ 63 → new ≡ with_added old sample.0 sample.1 → IsSumOf form (before ++ line ∷ []) new
+    → IsSample form line sample → total_of old + sample.1 < total_bound → new ≡ with_added old sample.0 sample.1 → IsSumOf form (before ++ line ∷ []) new
 taken form before line old new sample some h says fits grown = record {
   samples = h.samples ++ sample ∷ [];
   said = record {

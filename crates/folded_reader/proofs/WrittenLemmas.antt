@@ -15,6 +15,7 @@ use Rattle.std.proofs.lemmas.List.Elements.{All-nil, All-cons, All-head, All-tai
 use Rattle.std.proofs.lemmas.List.Splits.{slice_split_none, slice_split_at}
 use Rattle.std.proofs.lemmas.Str.{IsUtf8-append, IsUtf8-nil, IsUtf8-from_ascii}
 use Rattle.std.proofs.lemmas.Str.Parse.{digit_at}
+use Rattle.profile_model.specs.Limits.{total_bound}
 use Rattle.profile_model.specs.Stacks.{stack_cmp}
 use Rattle.profile_model.specs.StackOrder.{stacks_total}
 use Rattle.profile_model.specs.Sums.{Sample, total_of, value_of}
@@ -83,9 +84,9 @@ body_line-high sample kept small =
 
 -- the values fit, and the names are written as they are
 abbrev pub AreWritable : List Sample → Type 0
-AreWritable sums = All IsPlain (keys_of sums) × (total_of sums < 2 ^ 63)
+AreWritable sums = All IsPlain (keys_of sums) × (total_of sums < total_bound)
 
-first_writable : (s : Sample) (ss : List Sample) → AreWritable (s ∷ ss) → IsPlain s.0 × (s.1 < 2 ^ 63) × AreWritable ss
+first_writable : (s : Sample) (ss : List Sample) → AreWritable (s ∷ ss) → IsPlain s.0 × (s.1 < total_bound) × AreWritable ss
 first_writable s ss h =
     let all = total-cons s ss in let small = h.1 in
     (All-head IsPlain s.0 (keys_of ss) h.0, omega arith, (All-tail IsPlain s.0 (keys_of ss) h.0, omega arith))
@@ -111,7 +112,7 @@ filled-lines (s ∷ ss) =
     let count = length-append (written_stack s.0) (32 ∷ decimal s.1) in
     ap (λ b. cond b (body_line s ∷ rest) rest) (has_bytes_test (body_line s) (omega arith)) ∙ ap (λ r. body_line s ∷ r) (filled-lines ss)
 
-says : (s : Sample) → IsPlain s.0 → s.1 < 2 ^ 63 → IsSample Counted (body_line s) s
+says : (s : Sample) → IsPlain s.0 → s.1 < total_bound → IsSample Counted (body_line s) s
 says s plain small =
     let numeral = decimal_is_IsNumeral s.1 (omega arith) in
     record {
@@ -189,7 +190,7 @@ IsUtf8-join (f ∷ g ∷ fs) each =
     IsUtf8-append f (59 ∷ join_with_byte 59 (g ∷ fs)) (All-head IsUtf8 f (g ∷ fs) each)
     (IsUtf8-append (59 ∷ []) (join_with_byte 59 (g ∷ fs)) (IsUtf8-one 59 (lit< tt)) (IsUtf8-join (g ∷ fs) (All-tail IsUtf8 f (g ∷ fs) each)))
 
-IsUtf8-line : (s : Sample) → IsPlain s.0 → s.1 < 2 ^ 63 → IsUtf8 (written_line s)
+IsUtf8-line : (s : Sample) → IsPlain s.0 → s.1 < total_bound → IsUtf8 (written_line s)
 IsUtf8-line s plain small =
     IsUtf8-append (body_line s) (10 ∷ [])
     (IsUtf8-append (written_stack s.0) (32 ∷ decimal s.1) (rw (written_frames-kept s.0 plain.kept) (IsUtf8-join s.0 plain.utf8))

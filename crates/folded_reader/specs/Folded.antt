@@ -1,7 +1,8 @@
 -- What a body of folded text says.
-use Rattle.std.specs.Prelude.{◌≡◌, ◌==◌, ℕ, ◌+◌, ◌^◌, ◌<◌, List, [], ◌∷◌, ◌++◌, length, filter, nat_lt, nat_eq, IsTrue, Result, Ok, Err}
+use Rattle.std.specs.Prelude.{◌≡◌, ◌==◌, ℕ, ◌+◌, ◌<◌, List, [], ◌∷◌, ◌++◌, length, filter, nat_lt, nat_eq, IsTrue, Result, Ok, Err}
 use Rattle.std.specs.List.{AllZip, slice_split, starts_with}
 use Rattle.std.specs.Str.{IsUtf8, IsValidUpTo}
+use Rattle.profile_model.specs.Limits.{total_bound}
 use Rattle.profile_model.specs.Sums.{Sample, total_of, sums_of}
 use Rattle.folded_reader.specs.Lines.{IsSample, IsFaultOfLine}
 use Rattle.folded_reader.specs.declared.line.LineForm.{LineForm}
@@ -18,10 +19,10 @@ lines_of body = slice_split (λ b. b == 10) body
 abbrev pub filled : List (List ℕ) → List (List ℕ)
 filled lines = filter (λ line. nat_lt 0 (length line)) lines
 
--- what the lines say, in order, with all counts below 2^63
+-- what the lines say, in order, with all counts together below the bound of totals
 pub record AreSamples (form : LineForm) (lines : List (List ℕ)) (samples : List Sample) : Type 0 where
   pub each : AllZip (IsSample form) (filled lines) samples
-  pub bounded : total_of samples < 2 ^ 63
+  pub bounded : total_of samples < total_bound
 
 -- what the lines come to, stack by stack
 pub record IsSumOf (form : LineForm) (lines : List (List ℕ)) (sums : List Sample) : Type 0 where

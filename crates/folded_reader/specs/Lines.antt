@@ -1,8 +1,9 @@
 -- What a line says. Folded stacks are the text of Brendan Gregg's flame graph tools: frames from the root
 -- joined by ';', a space and a count. The faults and the bounds are this project's own.
-use Rattle.std.specs.Prelude.{◌≡◌, ◌≢◌, ◌==◌, ◌⊎◌, ℕ, ◌+◌, ◌^◌, ◌<◌, ◌≤◌, List, ◌∷◌, ◌++◌, length}
+use Rattle.std.specs.Prelude.{◌≡◌, ◌≢◌, ◌==◌, ◌⊎◌, ℕ, ◌+◌, ◌<◌, ◌≤◌, List, ◌∷◌, ◌++◌, length}
 use Rattle.std.specs.List.{All, Any, slice_split}
 use Rattle.std.specs.Str.Parse.{IsNumeral, digits_value}
+use Rattle.profile_model.specs.Limits.{most_frames, most_frame_bytes, total_bound}
 use Rattle.profile_model.specs.Stacks.{IsStack}
 use Rattle.profile_model.specs.Sums.{Sample}
 use Rattle.folded_reader.specs.declared.line.LineForm.{LineForm}
@@ -19,11 +20,11 @@ pub record IsCutAtLastSpace (line stack digits : List ℕ) : Type 0 where
   pub joined : line ≡ stack ++ 32 ∷ digits
   pub last : All (λ b. b ≢ 32) digits
 
--- decimal digits alone, with any number of leading zeros, of a number below 2^63
+-- decimal digits alone, with any number of leading zeros, of a number below the bound of totals
 pub record IsCount (digits : List ℕ) (count : ℕ) : Type 0 where
   pub numeral : IsNumeral 10 digits
   pub value : count ≡ digits_value 10 digits
-  pub bounded : count < 2 ^ 63
+  pub bounded : count < total_bound
 
 -- the text of the line's stack, and its count; a bare line is a stack that counts once
 abbrev pub Says : LineForm → List ℕ → List ℕ → ℕ → Type 0
@@ -47,9 +48,9 @@ SaysNothing form n line fault = ⊥
 -- these frames of line n are no stack, and the fault names the first of three rules that they break
 abbrev pub AreNoStack : ℕ → List (List ℕ) → FoldedFault → Type 0
 AreNoStack n frames (EmptyFrame at) = (at ≡ n) × Any (λ frame. length frame ≡ 0) frames
-AreNoStack n frames (TooDeep at) = (at ≡ n) × All (λ frame. 0 < length frame) frames × (1024 < length frames)
+AreNoStack n frames (TooDeep at) = (at ≡ n) × All (λ frame. 0 < length frame) frames × (most_frames < length frames)
 AreNoStack n frames (LongFrame at) =
-    (at ≡ n) × All (λ frame. 0 < length frame) frames × (length frames ≤ 1024) × Any (λ frame. 65535 < length frame) frames
+    (at ≡ n) × All (λ frame. 0 < length frame) frames × (length frames ≤ most_frames) × Any (λ frame. most_frame_bytes < length frame) frames
 AreNoStack n frames fault = ⊥
 
 -- line n says a count, and its frames are no stack
@@ -59,9 +60,9 @@ pub record SaysNoStack (form : LineForm) (n : ℕ) (line : List ℕ) (fault : Fo
   pub says : Says form line text count
   pub no_stack : AreNoStack n (frames_of text) fault
 
--- with the count of line n, all counts come to 2^63 or more; those before it come to total
+-- with the count of line n, all counts reach the bound of totals; those before it come to total
 abbrev pub PassesLimit : LineForm → ℕ → ℕ → List ℕ → FoldedFault → Type 0
-PassesLimit form n total line (TooLarge at) = (at ≡ n) × (sample : Sample) × IsSample form line sample × (2 ^ 63 ≤ total + sample.1)
+PassesLimit form n total line (TooLarge at) = (at ≡ n) × (sample : Sample) × IsSample form line sample × (total_bound ≤ total + sample.1)
 PassesLimit form n total line fault = ⊥
 
 -- the fault of line n, where the counts before it come to total

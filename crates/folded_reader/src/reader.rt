@@ -1,5 +1,6 @@
 // Folded text to sums.
-ghost use Rattle.std.specs.Prelude.{◌≡◌, ◌+◌, ◌^◌, ◌<◌, MatchResult};
+ghost use Rattle.std.specs.Prelude.{◌≡◌, ◌+◌, ◌<◌, MatchResult};
+ghost use Rattle.profile_model.specs.Limits.{total_bound};
 ghost use Rattle.profile_model.specs.Sums.{Sample, total_of, with_added};
 ghost use Rattle.faults.specs.Answers.{IfAnswered, IfFault};
 ghost use Rattle.folded_reader.specs.Lines.{IsSample, IsFaultOfLine};
@@ -74,7 +75,7 @@ fn add_line<'a>(
     number: u64,
 ) -> Result<(), Refused<FoldedFault>>
     ensures { MatchResult result
-        (λ _. (sample : Sample) × IsSample form line.now sample × (total_of sums.old + sample.1 < 2 ^ 63)
+        (λ _. (sample : Sample) × IsSample form line.now sample × (total_of sums.old + sample.1 < total_bound)
         × (sums.new ≡ with_added sums.old sample.0 sample.1))
         (IfFault (IsFaultOfLine form number (total_of sums.old) line.now)) }
 {

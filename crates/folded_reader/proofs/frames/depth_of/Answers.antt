@@ -3,6 +3,7 @@ use Rattle.std.specs.List.{All, Any}
 use Rattle.std.proofs.lemmas.List.{length_push}
 use Rattle.std.proofs.lemmas.List.Elements.{All-push}
 use Rattle.std.proofs.lemmas.List.Splits.{length-slice_split}
+use Rattle.profile_model.specs.Limits.{most_frame_bytes}
 use Rattle.folded_reader.specs.Lines.{frames_of}
 use Rattle.folded_reader.proofs.FrameLemmas.{Any-push, TellsLong-push, stack_of, empty_from_test, named_from_test}
 use Rattle.folded_reader.proofs.SplitLemmas.{part_turn, part_end}
@@ -27,7 +28,7 @@ loop-frame-preserved c =
           rw turn.pushed
           (All-push (λ f. 0 < length f) before frame c.loop-frame.invariant.named (named_from_test _ _ c.is_empty.ensures c.if-is_empty.false));
       long = elim c.if-frame-gt-MAX_FRAME_BYTES.branch [
-        | then-frame-gt-MAX_FRAME_BYTES w ↦ rw (w.has_long-is, turn.pushed) (Any-push (λ f. 65535 < length f) before frame (omega arith))
+        | then-frame-gt-MAX_FRAME_BYTES w ↦ rw (w.has_long-is, turn.pushed) (Any-push (λ f. most_frame_bytes < length f) before frame (omega arith))
         | else-frame-gt-MAX_FRAME_BYTES w ↦ rw (w.has_long-is, turn.pushed) (TellsLong-push c.loop-frame.has_long before frame (omega arith) c.loop-frame.invariant.long)
       ];
     }
@@ -47,7 +48,7 @@ returns-then-has_long c =
       refl,
       subst (All (λ f. 0 < length f)) end.0 c.loop-frame.invariant.named,
       omega arith,
-      subst (Any (λ f. 65535 < length f)) end.0 (rw c.if-has_long.true at c.loop-frame.invariant.long),
+      subst (Any (λ f. most_frame_bytes < length f)) end.0 (rw c.if-has_long.true at c.loop-frame.invariant.long),
     )
 
 pub returns : goal.returns
@@ -58,5 +59,5 @@ returns c =
     let some = length-slice_split (λ b. b == 59) c.args.text.now in (
       count ∙ end.1,
       stack_of (frames_of c.args.text.now) (omega arith) (omega arith) (subst (All (λ f. 0 < length f)) end.0 c.loop-frame.invariant.named)
-          (subst (All (λ f. length f ≤ 65535)) end.0 (rw c.if-has_long.false at c.loop-frame.invariant.long)),
+          (subst (All (λ f. length f ≤ most_frame_bytes)) end.0 (rw c.if-has_long.false at c.loop-frame.invariant.long)),
     )

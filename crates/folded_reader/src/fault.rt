@@ -1,5 +1,5 @@
 // Why a body is no folded text.
-ghost use Rattle.std.specs.Prelude.{◌≡◌};
+ghost use Rattle.std.specs.Prelude.{◌≡◌, ◌≤◌, length};
 ghost use Rattle.faults.specs.Places.{numbers_of};
 ghost use Rattle.faults.specs.declared.refused.Refused.TheVariants.{Fault};
 ghost use Rattle.folded_reader.specs.Faults.{code_of, place_of};
@@ -47,7 +47,8 @@ impl FoldedFault {
 
     /// The number of the line, or the place of the byte. A compressed body has none.
     pub fn place(&self) -> Place
-        ensures { numbers_of result ≡ place_of self.now }
+        ensures place { numbers_of result ≡ place_of self.now }
+        ensures short { length (numbers_of result) ≤ 1 }
     {
         match self {
             FoldedFault::NoCount(line)

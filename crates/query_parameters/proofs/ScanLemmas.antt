@@ -1,6 +1,5 @@
 -- Reading a series' name byte by byte goes on as long as some name does.
-use Rattle.std.proofs.Common.{◌≡◌, ◌∙◌, ◌==◌, ◌⊎◌, ◌||◌, ◌+◌, ◌<◌, ◌≤◌, ℕ, zero, suc, Bool, true, false, cond, not, List, [], ◌∷◌, ◌++◌, length, take, drop, get_or, map, refl, sym, ap, inl, inr, arith, fold, nat_lt, All, Option, Some, None}
-use Rattle.std.specs.Prelude.{◌&&◌, MatchOption}
+use Rattle.std.proofs.Common.{◌≡◌, ◌∙◌, ◌==◌, ◌⊎◌, ◌||◌, ◌+◌, ◌<◌, ◌≤◌, ℕ, zero, suc, Bool, true, false, cond, not, List, [], ◌∷◌, ◌++◌, length, take, drop, get_or, refl, sym, ap, inl, inr, arith, nat_lt, Option, Some, None}
 use Rattle.std.specs.Cmp.{first_so, second_so}
 use Rattle.std.specs.List.{AllByRecursion, list_all}
 use Rattle.std.proofs.lemmas.Bool.{true≢false, eqb-true, lt-ltb, ltb-true}
@@ -8,7 +7,7 @@ use Rattle.std.proofs.lemmas.List.{append-nil, append_assoc, take-append-drop, t
 use Rattle.std.proofs.lemmas.List.Elements.{All-from_recursion, recursion_from_All}
 use Rattle.std.proofs.lemmas.List.Sums.{fold-append, fold_more}
 use Rattle.profile_model.specs.Breaks.{Begins, BreaksAt}
-use Rattle.query_parameters.specs.SeriesNames.{IsKey, IsName, IsPair, IsSeriesName, IsService, IsValue, pair_text, pairs_text}
+use Rattle.query_parameters.specs.SeriesNames.{IsKey, IsName, IsPair, IsValue, most_service_bytes, pair_text, pairs_text}
 use Rattle.query_parameters.specs.SeriesScan.{after_key, after_service, after_value, ends_whole, is_whole, next_part, scan, start, then_byte}
 use Rattle.query_parameters.specs.declared.scan.Part.{Part}
 use Rattle.query_parameters.specs.declared.scan.Part.TheVariants.{Service, Open, Key, Value, End}
@@ -33,12 +32,12 @@ lost bytes whole = true≢false (sym whole ∙ ap ends_whole (scan-none bytes))
 
 -- ---- names are read to their end
 
-service_scan : (service rest : List ℕ) (n : ℕ) → list_all (λ b. not (b == 123)) service ≡ true → n + length service ≤ 2048
+service_scan : (service rest : List ℕ) (n : ℕ) → list_all (λ b. not (b == 123)) service ≡ true → n + length service ≤ most_service_bytes
     → scan (Some (Service n)) (service ++ rest) ≡ scan (Some (Service (n + length service))) rest
 service_scan [] rest n plain short = ap (λ (k : ℕ). scan (Some (Service k)) rest) (let same : n ≡ n + 0 = omega arith in same)
 service_scan (b ∷ service) rest n plain short =
     let other = not_true (b == 123) (first_so (not (b == 123)) (list_all (λ c. not (c == 123)) service) plain) in
-    let room : nat_lt n 2048 ≡ true = lt-ltb n 2048 (omega arith) in
+    let room : nat_lt n most_service_bytes ≡ true = lt-ltb n most_service_bytes (omega arith) in
     let step : after_service n b ≡ Some (Service (n + 1)) = rw (other, room) refl in
     let count : n + 1 + length service ≡ n + length (b ∷ service) = omega arith in
     ap (λ (part : Option Part). scan part (service ++ rest)) step
@@ -111,7 +110,7 @@ braced (p ∷ q ∷ ps) =
 pub name_scanned : (text : List ℕ) → IsName text → ends_whole (scan start text) ≡ true
 name_scanned text (service, pairs, is) = by is.text_is
   where
-    size : 0 + length service ≤ 2048
+    size : 0 + length service ≤ most_service_bytes
     size = let short = is.service_is.short in omega arith
 
     some : nat_lt 0 (0 + length service) ≡ true
@@ -133,7 +132,7 @@ name_scanned text (service, pairs, is) = by is.text_is
 -- what bytes that are read to the end of a name are, by what the first of them belongs to
 abbrev Ends : Part → List ℕ → Type 0
 Ends (Service n) bytes =
-    (service : List ℕ) × (list_all (λ b. not (b == 123)) service ≡ true) × (n + length service ≤ 2048) × (0 < n + length service)
+    (service : List ℕ) × (list_all (λ b. not (b == 123)) service ≡ true) × (n + length service ≤ most_service_bytes) × (0 < n + length service)
     × ((bytes ≡ service) ⊎ ((pairs : List Pair) × AllByRecursion IsPair pairs × (bytes ≡ service ++ 123 ∷ body_text pairs)))
 Ends Open bytes = (pairs : List Pair) × AllByRecursion IsPair pairs × (bytes ≡ body_text pairs)
 Ends Key bytes =
@@ -174,8 +173,8 @@ at_open b bytes false is end key whole =
     let h = key whole in
     ((h.0, h.1) ∷ h.2, (record { key = h.3; value = h.4 }, h.5), h.6 ∙ pair_joined h.0 h.1 (tail_text h.2))
 
-at_service : (n b : ℕ) (bytes : List ℕ) (brace some room : Bool) → n ≤ 2048 → (b == 123) ≡ brace → nat_lt 0 n ≡ some → nat_lt n 2048 ≡ room
-    → Leads Open bytes → (n + 1 ≤ 2048 → Leads (Service (n + 1)) bytes)
+at_service : (n b : ℕ) (bytes : List ℕ) (brace some room : Bool) → n ≤ most_service_bytes → (b == 123) ≡ brace → nat_lt 0 n ≡ some → nat_lt n most_service_bytes ≡ room
+    → Leads Open bytes → (n + 1 ≤ most_service_bytes → Leads (Service (n + 1)) bytes)
     → ends_whole (scan (cond brace (cond some (Some Open) None) (cond room (Some (Service (n + 1))) None)) bytes) ≡ true → Ends (Service n) (b ∷ bytes)
 at_service n b bytes true true room short is more left body more_service whole =
     let h = body whole in
@@ -183,7 +182,7 @@ at_service n b bytes true true room short is more left body more_service whole =
     ([], refl, omega arith, omega arith, inr (h.0, h.1, λ i. eqb-true b 123 is i ∷ h.2 i))
 at_service n b bytes true false room short is more left body more_service whole = absurd (lost bytes whole)
 at_service n b bytes false some true short is more left body more_service whole =
-    let below = ltb-true n 2048 left in
+    let below = ltb-true n most_service_bytes left in
     let h = more_service (omega arith) whole in
     let own : list_all (λ c. not (c == 123)) (b ∷ h.0) ≡ true = rw is h.1 in
     let size = h.2 in
@@ -196,7 +195,7 @@ at_service n b bytes false some true short is more left body more_service whole 
 at_service n b bytes false some false short is more left body more_service whole = absurd (lost bytes whole)
 
 abbrev Sized : Part → Type 0
-Sized (Service n) = n ≤ 2048
+Sized (Service n) = n ≤ most_service_bytes
 Sized Open = Unit {0}
 Sized Key = Unit {0}
 Sized Value = Unit {0}
@@ -209,7 +208,7 @@ ends [] Key sized whole = absurd (true≢false (sym whole))
 ends [] Value sized whole = absurd (true≢false (sym whole))
 ends [] End sized whole = refl
 ends (b ∷ bytes) (Service n) sized whole =
-    at_service n b bytes (b == 123) (nat_lt 0 n) (nat_lt n 2048) sized refl refl refl (ends bytes Open tt) (λ room. ends bytes (Service (n + 1)) room) whole
+    at_service n b bytes (b == 123) (nat_lt 0 n) (nat_lt n most_service_bytes) sized refl refl refl (ends bytes Open tt) (λ room. ends bytes (Service (n + 1)) room) whole
 ends (b ∷ bytes) Open sized whole =
     at_open b bytes (b == 125) refl (ends bytes End tt) (at_key b bytes (b == 61) (b == 44 || b == 125) refl refl (ends bytes Value tt) (ends bytes Key tt)) whole
 ends (b ∷ bytes) Key sized whole = at_key b bytes (b == 61) (b == 44 || b == 125) refl refl (ends bytes Value tt) (ends bytes Key tt) whole
@@ -221,7 +220,7 @@ scanned_name text whole =
     let h = ends text (Service 0) (omega arith) whole in
     let short = h.2 in let some = h.3 in named h.0 h.1 (omega arith) (omega arith) h.4
   where
-    named : (service : List ℕ) → list_all (λ b. not (b == 123)) service ≡ true → length service ≤ 2048 → 0 < length service
+    named : (service : List ℕ) → list_all (λ b. not (b == 123)) service ≡ true → length service ≤ most_service_bytes → 0 < length service
         → (text ≡ service) ⊎ ((pairs : List Pair) × AllByRecursion IsPair pairs × (text ≡ service ++ 123 ∷ body_text pairs)) → IsName text
     named service plain short some (inl eq) =
         (service, [], record { service_is = record { some = some; short = short; plain = plain }; pairs_are = λ k d none. absurd (omega arith); text_is = inl (eq, refl) })

@@ -1,15 +1,15 @@
 -- A name of a series, cut at its marks, gives its service and its pairs.
-use Rattle.std.proofs.Common.{◌≡◌, ◌∙◌, ◌==◌, ◌⊎◌, ◌||◌, ◌+◌, ◌<◌, ◌≤◌, ℕ, Bool, true, false, cond, not, List, [], ◌∷◌, ◌++◌, length, take, drop, map, refl, sym, ap, inl, inr, arith, All, suc}
+use Rattle.std.proofs.Common.{◌≡◌, ◌∙◌, ◌==◌, ◌⊎◌, ◌||◌, ◌+◌, ◌<◌, ℕ, Bool, true, false, cond, not, List, [], ◌∷◌, ◌++◌, length, take, drop, map, refl, sym, ap, inl, inr, arith, All, suc}
 use Rattle.std.specs.Prelude.{◌&&◌}
 use Rattle.std.specs.Cmp.{first_so, second_so}
 use Rattle.std.specs.List.{AllByRecursion, after_first, before_first, list_all, position_or_len, slice_split}
 use Rattle.std.proofs.lemmas.Bool.{true≢false, eq-eqb}
-use Rattle.std.proofs.lemmas.List.{length-append, take_all}
+use Rattle.std.proofs.lemmas.List.{length-append}
 use Rattle.std.proofs.lemmas.List.Elements.{recursion_from_All}
 use Rattle.std.proofs.lemmas.List.Folds.{list_all-append}
 use Rattle.std.proofs.lemmas.List.Splits.{slice_split_at, slice_split_none}
 use Rattle.std.proofs.lemmas.List.Sums.{AllPass-from_list_all}
-use Rattle.query_parameters.specs.SeriesNames.{IsKey, IsName, IsPair, IsSeriesName, IsService, IsValue, pair_text, pairs_text}
+use Rattle.query_parameters.specs.SeriesNames.{IsKey, IsName, IsPair, IsSeriesName, IsValue, pair_text, pairs_text}
 use Rattle.query_parameters.specs.SeriesScan.{split_pair, split_pairs}
 
 abbrev Pair : Type 0

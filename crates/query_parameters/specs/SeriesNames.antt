@@ -1,12 +1,16 @@
 -- Names of series: a service, and labels in braces behind it.
-use Rattle.std.specs.Prelude.{◌≡◌, ◌==◌, ◌||◌, ◌⊎◌, ℕ, ◌<◌, ◌≤◌, Bool, not, List, [], ◌∷◌, ◌++◌, length, map, IsTrue}
+use Rattle.std.specs.Prelude.{◌≡◌, ◌==◌, ◌||◌, ◌⊎◌, ℕ, ◌<◌, ◌≤◌, not, List, [], ◌∷◌, ◌++◌, length, map, IsTrue}
 use Rattle.std.specs.List.{All, join_with_byte, list_all}
 use Rattle.query_parameters.specs.declared.series_name.SeriesName.{SeriesName}
 
--- a service: 1 to 2,048 bytes without `{`
+-- how many bytes a service may have
+abbrev pub most_service_bytes : ℕ
+most_service_bytes = 2048
+
+-- a service: at least one byte and not too many, none of them `{`
 pub record IsService (service : List ℕ) : Type 0 where
   pub some : 0 < length service
-  pub short : length service ≤ 2048
+  pub short : length service ≤ most_service_bytes
   pub plain : IsTrue (list_all (λ b. not (b == 123)) service)
 
 -- a key holds no `=`, `,` or `}`

@@ -1,13 +1,14 @@
 -- A series' name read byte by byte: what the next byte may be.
 use Rattle.std.specs.Prelude.{◌==◌, ◌||◌, ℕ, ◌+◌, Bool, true, false, List, [], ◌∷◌, fold, map, nat_lt, Option, Some, None, if◌then◌else◌}
 use Rattle.std.specs.List.{after_first, before_first, slice_split}
+use Rattle.query_parameters.specs.SeriesNames.{most_service_bytes}
 use Rattle.query_parameters.specs.declared.scan.Part.{Part}
 use Rattle.query_parameters.specs.declared.scan.Part.TheVariants.{Service, Open, Key, Value, End}
 
 abbrev pub after_service : ℕ → ℕ → Option Part
 after_service size b =
     if b == 123 then (if nat_lt 0 size then Some Open else None)
-    else (if nat_lt size 2048 then Some (Service (size + 1)) else None)
+    else (if nat_lt size most_service_bytes then Some (Service (size + 1)) else None)
 
 abbrev pub after_key : ℕ → Option Part
 after_key b = if b == 61 then Some Value else (if b == 44 || b == 125 then None else Some Key)

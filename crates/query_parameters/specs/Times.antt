@@ -4,6 +4,10 @@ use Rattle.std.specs.Cmp.Lexicographic.{pointwise}
 use Rattle.std.specs.List.{starts_with}
 use Rattle.query_parameters.specs.Digits.{number_of}
 
+-- the last millisecond of the year 9999
+abbrev pub last_ms : ℕ
+last_ms = 253402300799999
+
 -- The milliseconds of a number by the count of its digits: 1 to 10 are seconds, 11 to 13 milliseconds,
 -- 14 to 16 microseconds and 17 to 19 nanoseconds, rounded down.
 abbrev pub in_ms : ℕ → ℕ → ℕ

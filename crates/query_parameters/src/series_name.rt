@@ -6,6 +6,7 @@ ghost use Rattle.query_parameters.specs.SeriesScan.{split_pair, split_pairs};
 ghost use Rattle.query_parameters.specs.ReadNames.{IsReadName};
 
 use crate::scan::broken_place;
+use faults::Refused;
 use std::alloc::{AllocError, Global};
 use std::error::Error;
 use std::fmt;
@@ -25,14 +26,12 @@ pub struct SeriesName<'a> {
 pub enum NameFault {
     /// The length of the longest prefix that begins a name of a series.
     Broken(usize),
-    Memory,
 }
 
 impl fmt::Display for NameFault {
     fn fmt<W: fmt::Write>(&self, f: &mut fmt::Formatter<W>) -> fmt::Result {
         match self {
             NameFault::Broken(at) => write!(f, "no name of a series: see byte {at}"),
-            NameFault::Memory => write!(f, "out of memory"),
         }
     }
 }
@@ -41,16 +40,13 @@ impl Error for NameFault {}
 
 /// The service and the pairs of `service` or `service{key=value,key=value}`. A text that isn't of this
 /// form is refused before memory is asked for.
-pub fn read_series_name(alloc: Global, text: &str) -> Result<SeriesName<'_>, NameFault>
+pub fn read_series_name(alloc: Global, text: &str) -> Result<SeriesName<'_>, Refused<NameFault>>
     ensures { IsReadName text.now result }
 {
     if let Some(at) = broken_place(text.as_bytes()) {
-        return Err(NameFault::Broken(at));
+        return Err(Refused::Fault(NameFault::Broken(at)));
     }
-    match split_name(alloc, text) {
-        Ok(name) => Ok(name),
-        Err(_) => Err(NameFault::Memory),
-    }
+    Ok(split_name(alloc, text)?)
 }
 
 // The service and the pairs of a name.

@@ -1,5 +1,6 @@
 // What no clause says: that each call succeeds with ample memory. The answers are worked by hand.
 use crate::*;
+use faults::Refused;
 use std::alloc::Global;
 use std::test::Fail;
 
@@ -113,14 +114,14 @@ fn a_name_is_a_service_and_its_pairs(rt: HostRuntime) {
     }
 }
 
-fn reads(alloc: Global, fault: NameFault, words: &str) -> Result<bool, Fail> {
-    let text = fault.to_string(alloc)?;
+fn reads(alloc: Global, refused: Refused<NameFault>, words: &str) -> Result<bool, Fail> {
+    let text = refused.to_string(alloc)?;
     Ok(text.as_str() == words)
 }
 
 fn is_refused_with(alloc: Global, text: &str, words: &str) -> Result<bool, Fail> {
     match read_series_name(alloc, text).err() {
-        Some(fault) => reads(alloc, fault, words),
+        Some(refused) => reads(alloc, refused, words),
         None => Ok(false),
     }
 }

@@ -1,6 +1,6 @@
 // Times as parameters give them.
 ghost use Rattle.std.specs.Prelude.{◌≡◌, ◌<◌, ◌^◌, ◌≤◌, IfSome};
-ghost use Rattle.query_parameters.specs.Times.{moment_of, span_of, time_of, unit_of};
+ghost use Rattle.query_parameters.specs.Times.{last_ms, moment_of, span_of, time_of, unit_of};
 
 use crate::digits::number_of;
 
@@ -10,7 +10,7 @@ pub const MAX_TIME_MS: u64 = 253_402_300_799_999;
 /// Milliseconds since 1970 of a time: digits, whose count tells their unit, `now`, or `now-` and a span.
 pub fn read_time(text: &str, now_ms: u64) -> Option<u64>
     ensures time { result ≡ time_of text.now now_ms }
-    ensures bound { now_ms ≤ 253402300799999 → IfSome result (λ time. time ≤ 253402300799999) }
+    ensures bound { now_ms ≤ last_ms → IfSome result (λ time. time ≤ last_ms) }
 {
     let text = text.as_bytes();
     if text == b"now".as_slice() {

@@ -4,3 +4,4 @@ pub mod SumLawLemmas
 pub mod KindLemmas
 pub mod BreakLemmas
 pub mod LabelLemmas
+pub mod ReadLabelLemmas

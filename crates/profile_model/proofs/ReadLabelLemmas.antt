@@ -1,5 +1,5 @@
 -- Pairs make one list of labels, or have one first fault.
-use Rattle.std.proofs.Common.{◌≡◌, ◌≢◌, ◌⊎◌, ⊎_elim, inl, inr, ℕ, zero, suc, ◌<◌, ◌≤◌, Bool, true, false, cond, ◌||◌, List, [], ◌∷◌, length, take, get_or, Option, Some, None, Ok, Err, refl, sym, ap, ◌∙◌, subst, arith, nat_eq, nat_lt}
+use Rattle.std.proofs.Common.{◌≡◌, ◌⊎◌, ⊎_elim, inl, inr, ℕ, zero, suc, ◌<◌, ◌≤◌, Bool, true, false, cond, ◌||◌, List, [], ◌∷◌, length, take, get_or, Option, Some, None, Ok, Err, refl, sym, ap, ◌∙◌, subst, arith, nat_eq, nat_lt}
 use Rattle.std.specs.Prelude.{◌&&◌, IsFalse, IsSomeAnd, IsTrue, slice_get}
 use Rattle.std.proofs.Math.Dec.{T}
 use Rattle.std.specs.List.{AllByRecursion, IsDistinct}
@@ -14,10 +14,11 @@ use Rattle.std.proofs.lemmas.Bool.Decides.{nat_tests}
 use Rattle.std.proofs.lemmas.List.{get_or-take, length-take, take_all}
 use Rattle.std.proofs.lemmas.Option.{get_or_from_slice_get, none-some, slice_get_within}
 use Rattle.profile_model.specs.LabelSets.{Label, AreLabels, AreLabelsOf, AreSound, has_label, is_label_name, label_of, with_value}
+use Rattle.profile_model.specs.Limits.{most_labels, most_value_bytes}
 use Rattle.profile_model.specs.ReadLabels.{IsFirstFault, IsReadLabels}
 use Rattle.profile_model.specs.Stacks.{name_cmp}
 use Rattle.profile_model.specs.declared.labels.LabelFault.{LabelFault}
-use Rattle.profile_model.specs.declared.labels.LabelFault.TheVariants.{BadName, BadValue, Repeated, TooMany, Memory}
+use Rattle.profile_model.specs.declared.labels.LabelFault.TheVariants.{BadName, BadValue, Repeated, TooMany}
 
 -- ---- the labels
 
@@ -51,7 +52,7 @@ labels_once pairs labels others h k =
 
 record IsSoundAt (pairs : List Label) (at : ℕ) (pair : Label) : Type 0 where
   named : IsTrue (is_label_name pair.0)
-  short : length pair.1 ≤ 2048
+  short : length pair.1 ≤ most_value_bytes
   new : has_label (take at pairs) pair.0 ≡ false
 
 apart_at : (P : List ℕ → Type 0) (pairs : List Label) (n at : ℕ) (pair : Label) → slice_get pairs at ≡ Some pair → at < n
@@ -80,7 +81,7 @@ sound_at pairs n at pair here before sound =
     let same : get_or (take n pairs) at pair ≡ pair = get_or-take n pairs at pair before ∙ get_or_from_slice_get pairs at pair pair here in
     record {
       named = subst (λ (p : Label). IsTrue (is_label_name p.0)) same (sound.names at pair inside);
-      short = subst (λ (p : Label). length p.1 ≤ 2048) same (sound.values at pair inside);
+      short = subst (λ (p : Label). length p.1 ≤ most_value_bytes) same (sound.values at pair inside);
       new = new_at pairs n at pair here before sound.distinct;
     }
 
@@ -89,8 +90,8 @@ sound_at pairs n at pair here before sound =
 -- the rule that the pair at a place breaks
 abbrev IsRule : List Label → ℕ → Label → LabelFault → Type 0
 IsRule pairs at pair (BadName n) = (n ≡ at) × IsFalse (is_label_name pair.0)
-IsRule pairs at pair (BadValue n) = (n ≡ at) × IsTrue (is_label_name pair.0) × (2048 < length pair.1)
-IsRule pairs at pair (Repeated n) = (n ≡ at) × IsTrue (is_label_name pair.0) × (length pair.1 ≤ 2048) × IsTrue (has_label (take at pairs) pair.0)
+IsRule pairs at pair (BadValue n) = (n ≡ at) × IsTrue (is_label_name pair.0) × (most_value_bytes < length pair.1)
+IsRule pairs at pair (Repeated n) = (n ≡ at) × IsTrue (is_label_name pair.0) × (length pair.1 ≤ most_value_bytes) × IsTrue (has_label (take at pairs) pair.0)
 IsRule pairs at pair fault = ⊥
 
 record IsBroken (pairs : List Label) (fault : LabelFault) : Type 0 where
@@ -108,7 +109,6 @@ rule_not_sound pairs at pair (BadName n) sound rule = clash (is_label_name pair.
 rule_not_sound pairs at pair (BadValue n) sound rule = let short = sound.short in let long = rule.2 in omega arith
 rule_not_sound pairs at pair (Repeated n) sound rule = clash (has_label (take at pairs) pair.0) rule.3 sound.new
 rule_not_sound pairs at pair TooMany sound rule = rule
-rule_not_sound pairs at pair Memory sound rule = rule
 
 rule_once : (pairs : List Label) (at : ℕ) (pair : Label) (fault other : LabelFault) → IsRule pairs at pair fault → IsRule pairs at pair other → fault ≡ other
 rule_once pairs at pair (BadName n) (BadName m) h k = ap BadName (h.0 ∙ sym k.0)
@@ -158,32 +158,30 @@ found_broken pairs at fault P rule h =
 
 -- too many labels, or a pair that breaks a rule
 abbrev IsManyOrBroken : List Label → LabelFault → Type 0
-IsManyOrBroken pairs fault = ((fault ≡ TooMany) × AreSound pairs × (30 < length (with_value pairs))) ⊎ IsBroken pairs fault
+IsManyOrBroken pairs fault = ((fault ≡ TooMany) × AreSound pairs × (most_labels < length (with_value pairs))) ⊎ IsBroken pairs fault
 
-many_or_broken : (pairs : List Label) (fault : LabelFault) → fault ≢ Memory → IsReadLabels pairs (Err fault) → IsManyOrBroken pairs fault
-many_or_broken pairs (BadName at) answered h =
+many_or_broken : (pairs : List Label) (fault : LabelFault) → IsReadLabels pairs (Err fault) → IsManyOrBroken pairs fault
+many_or_broken pairs (BadName at) h =
     inr (found_broken pairs at (BadName at) (λ (pair : Label). IsFalse (is_label_name pair.0)) (λ pair rule. (refl, rule)) h)
-many_or_broken pairs (BadValue at) answered h =
-    inr (found_broken pairs at (BadValue at) (λ (pair : Label). IsTrue (is_label_name pair.0) × (2048 < length pair.1)) (λ pair rule. (refl, rule.0, rule.1)) h)
-many_or_broken pairs (Repeated at) answered h =
-    inr (found_broken pairs at (Repeated at) (λ (pair : Label). IsTrue (is_label_name pair.0) × (length pair.1 ≤ 2048) × IsTrue (has_label (take at pairs) pair.0))
+many_or_broken pairs (BadValue at) h =
+    inr (found_broken pairs at (BadValue at) (λ (pair : Label). IsTrue (is_label_name pair.0) × (most_value_bytes < length pair.1)) (λ pair rule. (refl, rule.0, rule.1)) h)
+many_or_broken pairs (Repeated at) h =
+    inr (found_broken pairs at (Repeated at) (λ (pair : Label). IsTrue (is_label_name pair.0) × (length pair.1 ≤ most_value_bytes) × IsTrue (has_label (take at pairs) pair.0))
     (λ pair rule. (refl, rule.0, rule.1, rule.2)) h)
-many_or_broken pairs TooMany answered h = inl (refl, h.0, h.1)
-many_or_broken pairs Memory answered h = absurd (answered refl)
+many_or_broken pairs TooMany h = inl (refl, h.0, h.1)
 
 -- ---- the answer
 
 pub read_once : (pairs labels others : List Label) → IsReadLabels pairs (Ok labels) → IsReadLabels pairs (Ok others) → labels ≡ others
 read_once pairs labels others h k = labels_once (with_value pairs) labels others h.2 k.2
 
-pub read_not_fault : (pairs labels : List Label) (fault : LabelFault) → fault ≢ Memory → IsReadLabels pairs (Ok labels) → IsReadLabels pairs (Err fault) → ⊥
-read_not_fault pairs labels fault answered h k =
-    ⊎_elim (λ many. let few = h.1 in let more = many.2 in omega arith) (λ broken. sound_not_broken pairs fault h.0 broken) (many_or_broken pairs fault answered k)
+pub read_not_fault : (pairs labels : List Label) (fault : LabelFault) → IsReadLabels pairs (Ok labels) → IsReadLabels pairs (Err fault) → ⊥
+read_not_fault pairs labels fault h k =
+    ⊎_elim (λ many. let few = h.1 in let more = many.2 in omega arith) (λ broken. sound_not_broken pairs fault h.0 broken) (many_or_broken pairs fault k)
 
-pub fault_once : (pairs : List Label) (fault other : LabelFault) → fault ≢ Memory → other ≢ Memory
-    → IsReadLabels pairs (Err fault) → IsReadLabels pairs (Err other) → fault ≡ other
-fault_once pairs fault other answered answered' h k =
+pub fault_once : (pairs : List Label) (fault other : LabelFault) → IsReadLabels pairs (Err fault) → IsReadLabels pairs (Err other) → fault ≡ other
+fault_once pairs fault other h k =
     ⊎_elim
-    (λ many. ⊎_elim (λ many'. many.0 ∙ sym many'.0) (λ broken'. absurd (sound_not_broken pairs other many.1 broken')) (many_or_broken pairs other answered' k))
-    (λ broken. ⊎_elim (λ many'. absurd (sound_not_broken pairs fault many'.1 broken)) (λ broken'. broken_once pairs fault other broken broken') (many_or_broken pairs other answered' k))
-    (many_or_broken pairs fault answered h)
+    (λ many. ⊎_elim (λ many'. many.0 ∙ sym many'.0) (λ broken'. absurd (sound_not_broken pairs other many.1 broken')) (many_or_broken pairs other k))
+    (λ broken. ⊎_elim (λ many'. absurd (sound_not_broken pairs fault many'.1 broken)) (λ broken'. broken_once pairs fault other broken broken') (many_or_broken pairs other k))
+    (many_or_broken pairs fault h)

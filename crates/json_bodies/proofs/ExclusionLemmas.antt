@@ -1,5 +1,5 @@
 -- An object that is read has no fault.
-use Rattle.std.proofs.Common.{◌≡◌, ℕ, suc, List, [], ◌∷◌, ◌++◌, get_or, take, drop, Bool, true, false, true≢false, not, Option, Some, None, refl, sym, ap, ◌∙◌, drop-cons}
+use Rattle.std.proofs.Common.{◌≡◌, ℕ, suc, List, [], ◌∷◌, ◌++◌, get_or, take, drop, Bool, true, true≢false, not, Option, Some, None, refl, sym, ap, ◌∙◌, drop-cons}
 use Rattle.std.specs.Option.{MatchOption, is_none, is_some, option_and_then, option_map}
 use Rattle.std.specs.List.{position}
 use Rattle.std.proofs.lemmas.List.{take-append-drop}

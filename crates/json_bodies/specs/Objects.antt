@@ -4,7 +4,7 @@ use Rattle.serde_json.specs.Data.{Data, Members, object}
 use Rattle.serde_json.specs.Find.{as_object}
 use Rattle.serde_json.specs.Read.{read}
 use Rattle.json_bodies.specs.declared.object.JsonFault.{JsonFault}
-use Rattle.json_bodies.specs.declared.object.JsonFault.TheVariants.{NotObject, Memory}
+use Rattle.json_bodies.specs.declared.object.JsonFault.TheVariants.{NotObject}
 
 -- the body is UTF-8, and its text is this value
 pub record IsJson (body : List ℕ) (value : Data) : Type 0 where
@@ -19,7 +19,6 @@ IsNoObject body = (members : Members) → ¬ (IsJson body (object members))
 abbrev pub IsReadObject : List ℕ → Result Data JsonFault → Type 0
 IsReadObject body (Ok value) = IsJson body value × IsSome (as_object value)
 IsReadObject body (Err NotObject) = IsNoObject body
-IsReadObject body (Err Memory) = Unit {0}
 
 -- a body without bytes stands for `{}`
 abbrev pub or_braces : List ℕ → List ℕ

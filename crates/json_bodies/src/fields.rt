@@ -3,6 +3,7 @@ ghost use Rattle.std.specs.Prelude.{◌≡◌, map, MatchResult, Some, None, if�
 ghost use Rattle.std.specs.Char.{is_ascii_digit};
 ghost use Rattle.std.specs.List.{list_all};
 ghost use Rattle.std.specs.Str.Parse.{digits_value};
+ghost use Rattle.faults.specs.Answers.{IfFault};
 ghost use Rattle.serde_json.specs.Find.{as_str};
 ghost use Rattle.serde_json.specs.View.{view};
 ghost use Rattle.json_bodies.specs.Fields.{as_number_or_text, each_said, end_of, is_number_text};
@@ -10,8 +11,9 @@ ghost use Rattle.json_bodies.specs.FieldFaults.{IsWrongKind};
 
 use crate::JsonObject;
 use crate::values::as_list;
+use faults::Refused;
 use serde_json::Value;
-use std::alloc::{AllocError, AllocFailed, Global};
+use std::alloc::Global;
 use std::error::Error;
 use std::fmt;
 
@@ -26,37 +28,25 @@ const MAX_DIGITS: usize = 19;
 pub enum FieldFault {
     /// The number, in the order of the method's fields from 0, of the first field of a wrong kind.
     WrongKind(u64),
-    Memory,
 }
 
 impl fmt::Display for FieldFault {
     fn fmt<W: fmt::Write>(&self, f: &mut fmt::Formatter<W>) -> fmt::Result {
         match self {
             FieldFault::WrongKind(number) => write!(f, "field {number} is of a wrong kind"),
-            FieldFault::Memory => write!(f, "out of memory"),
         }
     }
 }
 
 impl Error for FieldFault {}
 
-impl From<AllocError> for FieldFault {
-    ghost use Rattle.json_bodies.specs.declared.fields.FieldFault.TheVariants.{Memory};
+impl From<FieldFault> for Refused<FieldFault> {
+    ghost use Rattle.faults.specs.declared.refused.Refused.TheVariants.{Fault};
 
-    ghost from_gives = { λ _ fault. fault ≡ Memory };
+    ghost from_gives = { λ fault refused. refused ≡ Fault fault };
 
-    fn from(_error: AllocError) -> FieldFault {
-        FieldFault::Memory
-    }
-}
-
-impl<T: Drop> From<AllocFailed<T>> for FieldFault {
-    ghost use Rattle.json_bodies.specs.declared.fields.FieldFault.TheVariants.{Memory};
-
-    ghost from_gives = { λ _ fault. fault ≡ Memory };
-
-    fn from(_error: AllocFailed<T>) -> FieldFault {
-        FieldFault::Memory
+    fn from(fault: FieldFault) -> Refused<FieldFault> {
+        Refused::Fault(fault)
     }
 }
 
@@ -80,15 +70,15 @@ impl JsonObject {
         alloc: Global,
         key: &str,
         number: u64,
-    ) -> Result<Vec<&str>, FieldFault>
+    ) -> Result<Vec<&str>, Refused<FieldFault>>
         ensures { MatchResult result
             (λ texts. texts_in key.now self.now ≡ Some (map (λ text. text.now) texts.items))
-            (IsWrongKind number (texts_in key.now self.now)) }
+            (IfFault (IsWrongKind number (texts_in key.now self.now))) }
     {
         match self.get(key) {
             Some(value) => match as_list(value) {
                 Some(values) => texts_of(alloc, values, number),
-                None => Err(FieldFault::WrongKind(number)),
+                None => Err(Refused::Fault(FieldFault::WrongKind(number))),
             },
             None => Ok(Vec::new(alloc)),
         }
@@ -107,16 +97,20 @@ impl JsonObject {
 }
 
 // The texts that the values of field `number` are.
-fn texts_of<'v>(alloc: Global, values: &'v [Value], number: u64) -> Result<Vec<&'v str>, FieldFault>
+fn texts_of<'v>(
+    alloc: Global,
+    values: &'v [Value],
+    number: u64,
+) -> Result<Vec<&'v str>, Refused<FieldFault>>
     ensures { MatchResult result
         (λ texts. each_said as_str (map view values.now) ≡ Some (map (λ text. text.now) texts.items))
-        (IsWrongKind number (each_said as_str (map view values.now))) }
+        (IfFault (IsWrongKind number (each_said as_str (map view values.now)))) }
 {
     let mut texts = Vec::with_capacity(alloc, values.len())?;
     for value in values {
         match value.as_str() {
             Some(text) => texts.push(text)?,
-            None => return Err(FieldFault::WrongKind(number)),
+            None => return Err(Refused::Fault(FieldFault::WrongKind(number))),
         }
     }
     Ok(texts)

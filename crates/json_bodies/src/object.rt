@@ -1,8 +1,10 @@
 // A body that is a JSON object.
 ghost use Rattle.std.specs.Prelude.{◌≡◌, option_map};
+ghost use Rattle.faults.specs.Answers.{IfAnswered};
 ghost use Rattle.serde_json.specs.Find.{get};
 ghost use Rattle.serde_json.specs.View.{view};
 
+use faults::Refused;
 use serde_json::Value;
 use std::alloc::Global;
 use std::error::Error;
@@ -36,14 +38,12 @@ impl Model for JsonObject {
 pub enum JsonFault {
     /// The body is no JSON, or none that `serde_json` reads, or another value than an object.
     NotObject,
-    Memory,
 }
 
 impl fmt::Display for JsonFault {
     fn fmt<W: fmt::Write>(&self, f: &mut fmt::Formatter<W>) -> fmt::Result {
         match self {
             JsonFault::NotObject => write!(f, "the body is no JSON object"),
-            JsonFault::Memory => write!(f, "out of memory"),
         }
     }
 }
@@ -54,20 +54,20 @@ impl JsonObject {
     ghost use Rattle.json_bodies.specs.Objects.{IsReadObject, or_braces};
 
     /// The object that the body is.
-    pub fn read(alloc: Global, body: &[u8]) -> Result<JsonObject, JsonFault>
-        ensures read { IsReadObject body.now result }
+    pub fn read(alloc: Global, body: &[u8]) -> Result<JsonObject, Refused<JsonFault>>
+        ensures read { IfAnswered (IsReadObject body.now) result }
     {
         match Value::from_slice(alloc, body) {
             Ok(value) if value.is_object() => Ok(JsonObject { value }),
-            Ok(_) => Err(JsonFault::NotObject),
-            Err(error) if error.is_memory() => Err(JsonFault::Memory),
-            Err(_) => Err(JsonFault::NotObject),
+            Ok(_) => Err(Refused::Fault(JsonFault::NotObject)),
+            Err(error) if error.is_memory() => Err(Refused::Memory),
+            Err(_) => Err(Refused::Fault(JsonFault::NotObject)),
         }
     }
 
     /// The same, where a body without bytes stands for `{}`.
-    pub fn read_or_empty(alloc: Global, body: &[u8]) -> Result<JsonObject, JsonFault>
-        ensures read { IsReadObject (or_braces body.now) result }
+    pub fn read_or_empty(alloc: Global, body: &[u8]) -> Result<JsonObject, Refused<JsonFault>>
+        ensures read { IfAnswered (IsReadObject (or_braces body.now)) result }
     {
         if body.is_empty() {
             JsonObject::read(alloc, b"{}")

@@ -1,5 +1,6 @@
 // What a push of raw profiles says.
 ghost use Rattle.std.specs.Prelude.{◌≡◌, map, MatchResult, option_map, Some};
+ghost use Rattle.faults.specs.Answers.{IfFault, IsMapped};
 ghost use Rattle.serde_json.specs.View.{view};
 ghost use Rattle.json_bodies.specs.Fields.{each_said};
 ghost use Rattle.json_bodies.specs.Pushes.{label_in, labels_in, push_in, raw_profile_in, raw_profiles_in, samples_in, series_in};
@@ -8,9 +9,10 @@ ghost use Rattle.json_bodies.specs.PushRead.{series_of};
 
 use crate::object::JsonObject;
 use crate::values::{as_list, list_at, text_at};
+use faults::Refused;
 use profile_model::Name;
 use serde_json::Value;
-use std::alloc::{AllocError, AllocFailed, Global};
+use std::alloc::Global;
 use std::error::Error;
 use std::fmt;
 
@@ -35,7 +37,6 @@ pub enum ShapeFault {
     /// The first place whose shape is another. For `series` itself both numbers are 0, and for a series that is no
     /// object or for its labels and samples as a whole `sample` is 0.
     Wrong { series: u64, sample: u64 },
-    Memory,
 }
 
 impl fmt::Display for ShapeFault {
@@ -44,89 +45,42 @@ impl fmt::Display for ShapeFault {
             ShapeFault::Wrong { series, sample } => {
                 write!(f, "another shape at series {series}, sample {sample}")
             }
-            ShapeFault::Memory => write!(f, "out of memory"),
         }
     }
 }
 
 impl Error for ShapeFault {}
 
-impl From<AllocError> for ShapeFault {
-    ghost use Rattle.json_bodies.specs.declared.push.ShapeFault.TheVariants.{Memory};
-
-    ghost from_gives = { λ _ fault. fault ≡ Memory };
-
-    fn from(_error: AllocError) -> ShapeFault {
-        ShapeFault::Memory
-    }
-}
-
-impl<T: Drop> From<AllocFailed<T>> for ShapeFault {
-    ghost use Rattle.json_bodies.specs.declared.push.ShapeFault.TheVariants.{Memory};
-
-    ghost from_gives = { λ _ fault. fault ≡ Memory };
-
-    fn from(_error: AllocFailed<T>) -> ShapeFault {
-        ShapeFault::Memory
-    }
-}
-
 // Why a value is no series.
 #[derive(Clone, Copy, Drop)]
 enum SeriesFault {
     // The first sample that says nothing, or 0 where the labels say nothing or there are no samples.
     Wrong(u64),
-    Memory,
 }
 
-impl From<AllocError> for SeriesFault {
-    ghost use Rattle.json_bodies.specs.declared.push.SeriesFault.TheVariants.{Memory};
-
-    ghost from_gives = { λ _ fault. fault ≡ Memory };
-
-    fn from(_error: AllocError) -> SeriesFault {
-        SeriesFault::Memory
-    }
-}
-
-impl<T: Drop> From<AllocFailed<T>> for SeriesFault {
-    ghost use Rattle.json_bodies.specs.declared.push.SeriesFault.TheVariants.{Memory};
-
-    ghost from_gives = { λ _ fault. fault ≡ Memory };
-
-    fn from(_error: AllocFailed<T>) -> SeriesFault {
-        SeriesFault::Memory
-    }
-}
-
-impl SeriesFault {
-    // The same as a fault of the push that has the series.
-    fn in_series(self, series: u64) -> ShapeFault
-        ensures { result ≡ in_series series self }
-    {
-        match self {
-            SeriesFault::Wrong(sample) => ShapeFault::Wrong { series, sample },
-            SeriesFault::Memory => ShapeFault::Memory,
-        }
-    }
+// What stops the reading of a series, told of the push that has it.
+fn in_series(refused: Refused<SeriesFault>, series: u64) -> Refused<ShapeFault>
+    ensures { IsMapped (λ fault wrong. wrong ≡ in_series series fault) refused result }
+{
+    refused.map(|SeriesFault::Wrong(sample)| ShapeFault::Wrong { series, sample })
 }
 
 impl<'v> PushBody<'v> {
     /// The push that an object is: `series`, a list that may be absent, of objects. Each has `labels`, objects with the
     /// texts `name` and `value`, and `samples`, objects with a text `rawProfile`. Other keys are ignored.
-    pub fn of(alloc: Global, object: &'v JsonObject) -> Result<PushBody<'v>, ShapeFault>
+    pub fn of(alloc: Global, object: &'v JsonObject) -> Result<PushBody<'v>, Refused<ShapeFault>>
         ensures read { MatchResult result
-            (λ push. push_in object.now ≡ Some (map series_of push.series.items)) (IsShapeFault object.now) }
+            (λ push. push_in object.now ≡ Some (map series_of push.series.items)) (IfFault (IsShapeFault object.now)) }
     {
         match object.get("series") {
             Some(value) => match as_list(value) {
                 Some(members) => Ok(PushBody {
                     series: read_members(alloc, members)?,
                 }),
-                None => Err(ShapeFault::Wrong {
+                None => Err(Refused::Fault(ShapeFault::Wrong {
                     series: 0,
                     sample: 0,
-                }),
+                })),
             },
             None => Ok(PushBody {
                 series: Vec::new(alloc),
@@ -138,24 +92,24 @@ impl<'v> PushBody<'v> {
 fn read_members<'v>(
     alloc: Global,
     members: &'v [Value],
-) -> Result<Vec<PushedSeries<'v>>, ShapeFault>
+) -> Result<Vec<PushedSeries<'v>>, Refused<ShapeFault>>
     ensures { MatchResult result
         (λ all. each_said series_in (map view members.now) ≡ Some (map series_of all.items))
-        (IsFaultOfMembers (map view members.now)) }
+        (IfFault (IsFaultOfMembers (map view members.now))) }
 {
     let mut all = Vec::with_capacity(alloc, members.len())?;
     for (at, member) in members.iter().enumerate() {
         match read_series(alloc, member) {
             Ok(series) => all.push(series)?,
-            Err(fault) => return Err(fault.in_series(at as u64)),
+            Err(refused) => return Err(in_series(refused, at as u64)),
         }
     }
     Ok(all)
 }
 
-fn read_series(alloc: Global, member: &Value) -> Result<PushedSeries<'_>, SeriesFault>
+fn read_series(alloc: Global, member: &Value) -> Result<PushedSeries<'_>, Refused<SeriesFault>>
     ensures { MatchResult result
-        (λ series. series_in (view member.now) ≡ Some (series_of series)) (IsSilentSeries (view member.now)) }
+        (λ series. series_in (view member.now) ≡ Some (series_of series)) (IfFault (IsSilentSeries (view member.now))) }
 {
     Ok(PushedSeries {
         labels: read_labels(alloc, member)?,
@@ -163,20 +117,20 @@ fn read_series(alloc: Global, member: &Value) -> Result<PushedSeries<'_>, Series
     })
 }
 
-fn read_labels(alloc: Global, member: &Value) -> Result<Vec<(Name, Name)>, SeriesFault>
+fn read_labels(alloc: Global, member: &Value) -> Result<Vec<(Name, Name)>, Refused<SeriesFault>>
     ensures { MatchResult result
-        (λ labels. labels_in (view member.now) ≡ Some labels.items) (IsSilentAt 0 (labels_in (view member.now))) }
+        (λ labels. labels_in (view member.now) ≡ Some labels.items) (IfFault (IsSilentAt 0 (labels_in (view member.now)))) }
 {
     match list_at(member, "labels") {
         Some(values) => labels_of(alloc, values),
-        None => Err(SeriesFault::Wrong(0)),
+        None => Err(Refused::Fault(SeriesFault::Wrong(0))),
     }
 }
 
-fn labels_of(alloc: Global, values: &[Value]) -> Result<Vec<(Name, Name)>, SeriesFault>
+fn labels_of(alloc: Global, values: &[Value]) -> Result<Vec<(Name, Name)>, Refused<SeriesFault>>
     ensures { MatchResult result
         (λ labels. each_said label_in (map view values.now) ≡ Some labels.items)
-        (IsSilentAt 0 (each_said label_in (map view values.now))) }
+        (IfFault (IsSilentAt 0 (each_said label_in (map view values.now)))) }
 {
     let mut labels = Vec::with_capacity(alloc, values.len())?;
     for value in values {
@@ -185,7 +139,7 @@ fn labels_of(alloc: Global, values: &[Value]) -> Result<Vec<(Name, Name)>, Serie
                 Name::from_text(alloc, name)?,
                 Name::from_text(alloc, text)?,
             ))?,
-            None => return Err(SeriesFault::Wrong(0)),
+            None => return Err(Refused::Fault(SeriesFault::Wrong(0))),
         }
     }
     Ok(labels)
@@ -197,27 +151,30 @@ fn label_of(value: &Value) -> Option<(&str, &str)>
     Some((text_at(value, "name")?, text_at(value, "value")?))
 }
 
-fn read_samples(alloc: Global, member: &Value) -> Result<Vec<&str>, SeriesFault>
+fn read_samples(alloc: Global, member: &Value) -> Result<Vec<&str>, Refused<SeriesFault>>
     ensures { MatchResult result
         (λ raws. raw_profiles_in (view member.now) ≡ Some (map (λ raw. raw.now) raws.items))
-        (AreSilentSamples (samples_in (view member.now))) }
+        (IfFault (AreSilentSamples (samples_in (view member.now)))) }
 {
     match list_at(member, "samples") {
         Some(values) => raw_profiles_of(alloc, values),
-        None => Err(SeriesFault::Wrong(0)),
+        None => Err(Refused::Fault(SeriesFault::Wrong(0))),
     }
 }
 
-fn raw_profiles_of<'v>(alloc: Global, values: &'v [Value]) -> Result<Vec<&'v str>, SeriesFault>
+fn raw_profiles_of<'v>(
+    alloc: Global,
+    values: &'v [Value],
+) -> Result<Vec<&'v str>, Refused<SeriesFault>>
     ensures { MatchResult result
         (λ raws. each_said raw_profile_in (map view values.now) ≡ Some (map (λ raw. raw.now) raws.items))
-        (AreSilentSamples (Some (map view values.now))) }
+        (IfFault (AreSilentSamples (Some (map view values.now)))) }
 {
     let mut raws = Vec::with_capacity(alloc, values.len())?;
     for (at, value) in values.iter().enumerate() {
         match text_at(value, "rawProfile") {
             Some(raw) => raws.push(raw)?,
-            None => return Err(SeriesFault::Wrong(at as u64)),
+            None => return Err(Refused::Fault(SeriesFault::Wrong(at as u64))),
         }
     }
     Ok(raws)

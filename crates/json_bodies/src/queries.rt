@@ -1,8 +1,10 @@
 // What the query methods that list labels are asked.
 ghost use Rattle.std.specs.Prelude.{MatchResult};
+ghost use Rattle.faults.specs.Answers.{IfFault};
 
 use crate::fields::{FieldFault, end_of};
 use crate::object::JsonObject;
+use faults::Refused;
 use std::alloc::Global;
 
 /// The names of the labels in a window.
@@ -39,9 +41,12 @@ impl<'v> LabelNamesBody<'v> {
     ghost use Rattle.json_bodies.specs.Queries.{IsLabelNames, label_names_kinds};
 
     /// The query of an object: `matchers`, `start` and `end`. An absent list is empty, and an absent number 0.
-    pub fn of(alloc: Global, object: &'v JsonObject) -> Result<LabelNamesBody<'v>, FieldFault>
+    pub fn of(
+        alloc: Global,
+        object: &'v JsonObject,
+    ) -> Result<LabelNamesBody<'v>, Refused<FieldFault>>
         ensures read { MatchResult result
-            (IsLabelNames object.now) (IsFirstWrong (label_names_kinds object.now)) }
+            (IsLabelNames object.now) (IfFault (IsFirstWrong (label_names_kinds object.now))) }
     {
         Ok(LabelNamesBody {
             matchers: object.texts(alloc, "matchers", 0)?,
@@ -56,9 +61,12 @@ impl<'v> LabelValuesBody<'v> {
     ghost use Rattle.json_bodies.specs.Queries.{IsLabelValues, label_values_kinds};
 
     /// The query of an object: `name`, `matchers`, `start` and `end`. An absent name is empty.
-    pub fn of(alloc: Global, object: &'v JsonObject) -> Result<LabelValuesBody<'v>, FieldFault>
+    pub fn of(
+        alloc: Global,
+        object: &'v JsonObject,
+    ) -> Result<LabelValuesBody<'v>, Refused<FieldFault>>
         ensures read { MatchResult result
-            (IsLabelValues object.now) (IsFirstWrong (label_values_kinds object.now)) }
+            (IsLabelValues object.now) (IfFault (IsFirstWrong (label_values_kinds object.now))) }
     {
         Ok(LabelValuesBody {
             name: object.text("name", 0)?,
@@ -74,8 +82,8 @@ impl<'v> SeriesBody<'v> {
     ghost use Rattle.json_bodies.specs.Queries.{IsSeries, series_kinds};
 
     /// The query of an object: `matchers`, `labelNames`, `start` and `end`.
-    pub fn of(alloc: Global, object: &'v JsonObject) -> Result<SeriesBody<'v>, FieldFault>
-        ensures read { MatchResult result (IsSeries object.now) (IsFirstWrong (series_kinds object.now)) }
+    pub fn of(alloc: Global, object: &'v JsonObject) -> Result<SeriesBody<'v>, Refused<FieldFault>>
+        ensures read { MatchResult result (IsSeries object.now) (IfFault (IsFirstWrong (series_kinds object.now))) }
     {
         Ok(SeriesBody {
             matchers: object.texts(alloc, "matchers", 0)?,

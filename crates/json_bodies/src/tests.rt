@@ -2,17 +2,18 @@ use crate::{
     FieldFault, JsonFault, JsonObject, LabelNamesBody, LabelValuesBody, PushBody, PushedSeries,
     SeriesBody, ShapeFault, faults_exclude_bodies,
 };
+use faults::Refused;
 use profile_model::Name;
 use std::alloc::Global;
 use std::test::Fail;
 
 const LATEST: u64 = 253_402_300_799_999;
 
-fn fault_of_body(alloc: Global, body: &[u8]) -> Option<JsonFault> {
+fn fault_of_body(alloc: Global, body: &[u8]) -> Option<Refused<JsonFault>> {
     JsonObject::read(alloc, body).err()
 }
 
-fn fault_of_body_or_none(alloc: Global, body: &[u8]) -> Option<JsonFault> {
+fn fault_of_body_or_none(alloc: Global, body: &[u8]) -> Option<Refused<JsonFault>> {
     JsonObject::read_or_empty(alloc, body).err()
 }
 
@@ -29,16 +30,17 @@ fn only_an_object_is_a_body(rt: HostRuntime) -> Result<(), Fail> {
         b"{} {}",
         b"{\"a\":\"\xFF\"}",
     ];
+    let no_object = Some(Refused::Fault(JsonFault::NotObject));
     for body in refused {
-        assert!(rt; fault_of_body(alloc, body) == Some(JsonFault::NotObject));
+        assert!(rt; fault_of_body(alloc, body) == no_object);
     }
     assert!(rt; fault_of_body_or_none(alloc, b"").is_none());
-    assert!(rt; fault_of_body_or_none(alloc, b" ") == Some(JsonFault::NotObject));
-    assert!(rt; fault_of_body_or_none(alloc, b"[]") == Some(JsonFault::NotObject));
+    assert!(rt; fault_of_body_or_none(alloc, b" ") == no_object);
+    assert!(rt; fault_of_body_or_none(alloc, b"[]") == no_object);
     Ok(())
 }
 
-fn object(alloc: Global, text: &str) -> Result<JsonObject, JsonFault> {
+fn object(alloc: Global, text: &str) -> Result<JsonObject, Refused<JsonFault>> {
     JsonObject::read_or_empty(alloc, text.as_bytes())
 }
 
@@ -134,19 +136,23 @@ fn a_query_of_series_cuts_to_names(rt: HostRuntime) -> Result<(), Fail> {
     Ok(())
 }
 
-fn fault_of_names(alloc: Global, text: &str) -> Result<Option<FieldFault>, Fail> {
+fn fault_of_names(alloc: Global, text: &str) -> Result<Option<Refused<FieldFault>>, Fail> {
     let body = object(alloc, text)?;
     Ok(LabelNamesBody::of(alloc, &body).err())
 }
 
-fn fault_of_values(alloc: Global, text: &str) -> Result<Option<FieldFault>, Fail> {
+fn fault_of_values(alloc: Global, text: &str) -> Result<Option<Refused<FieldFault>>, Fail> {
     let body = object(alloc, text)?;
     Ok(LabelValuesBody::of(alloc, &body).err())
 }
 
-fn fault_of_series(alloc: Global, text: &str) -> Result<Option<FieldFault>, Fail> {
+fn fault_of_series(alloc: Global, text: &str) -> Result<Option<Refused<FieldFault>>, Fail> {
     let body = object(alloc, text)?;
     Ok(SeriesBody::of(alloc, &body).err())
+}
+
+fn wrong_kind(number: u64) -> Option<Refused<FieldFault>> {
+    Some(Refused::Fault(FieldFault::WrongKind(number)))
 }
 
 #[test]
@@ -169,19 +175,19 @@ fn the_first_field_of_a_wrong_kind_is_told(rt: HostRuntime) -> Result<(), Fail> 
         ("{\"end\":true}", 2),
     ] {
         assert!(rt;
-            fault_of_names(alloc, text)? == Some(FieldFault::WrongKind(number)),
+            fault_of_names(alloc, text)? == wrong_kind(number),
             "{text}"
         );
     }
     for (text, number) in [("{\"name\":1,\"end\":null}", 0), ("{\"end\":null}", 3)] {
         assert!(rt;
-            fault_of_values(alloc, text)? == Some(FieldFault::WrongKind(number)),
+            fault_of_values(alloc, text)? == wrong_kind(number),
             "{text}"
         );
     }
     for (text, number) in [("{\"labelNames\":{}}", 1), ("{\"start\":[]}", 2)] {
         assert!(rt;
-            fault_of_series(alloc, text)? == Some(FieldFault::WrongKind(number)),
+            fault_of_series(alloc, text)? == wrong_kind(number),
             "{text}"
         );
     }
@@ -232,7 +238,7 @@ fn a_push_has_series_of_labels_and_samples(rt: HostRuntime) -> Result<(), Fail> 
     Ok(())
 }
 
-fn fault_of_push(alloc: Global, text: &str) -> Result<Option<ShapeFault>, Fail> {
+fn fault_of_push(alloc: Global, text: &str) -> Result<Option<Refused<ShapeFault>>, Fail> {
     let body = object(alloc, text)?;
     Ok(PushBody::of(alloc, &body).err())
 }
@@ -261,41 +267,50 @@ fn the_first_place_of_another_shape_is_told(rt: HostRuntime) -> Result<(), Fail>
             1,
         ),
     ] {
-        let wrong = ShapeFault::Wrong { series, sample };
+        let wrong = Refused::Fault(ShapeFault::Wrong { series, sample });
         assert!(rt; fault_of_push(rt.alloc(), text)? == Some(wrong), "{text}");
     }
     Ok(())
 }
 
-fn body_fault_reads(alloc: Global, fault: JsonFault, words: &str) -> Result<bool, Fail> {
-    let text = fault.to_string(alloc)?;
+fn body_fault_reads(alloc: Global, refused: Refused<JsonFault>, words: &str) -> Result<bool, Fail> {
+    let text = refused.to_string(alloc)?;
     Ok(text.as_str() == words)
 }
 
-fn field_fault_reads(alloc: Global, fault: FieldFault, words: &str) -> Result<bool, Fail> {
-    let text = fault.to_string(alloc)?;
+fn field_fault_reads(
+    alloc: Global,
+    refused: Refused<FieldFault>,
+    words: &str,
+) -> Result<bool, Fail> {
+    let text = refused.to_string(alloc)?;
     Ok(text.as_str() == words)
 }
 
-fn shape_fault_reads(alloc: Global, fault: ShapeFault, words: &str) -> Result<bool, Fail> {
-    let text = fault.to_string(alloc)?;
+fn shape_fault_reads(
+    alloc: Global,
+    refused: Refused<ShapeFault>,
+    words: &str,
+) -> Result<bool, Fail> {
+    let text = refused.to_string(alloc)?;
     Ok(text.as_str() == words)
 }
 
 #[test]
 fn faults_are_told_in_words(rt: HostRuntime) -> Result<(), Fail> {
     let alloc = rt.alloc();
-    assert!(rt; body_fault_reads(alloc, JsonFault::NotObject, "the body is no JSON object")?);
-    assert!(rt; body_fault_reads(alloc, JsonFault::Memory, "out of memory")?);
-    let kind = FieldFault::WrongKind(2);
+    let no_object = Refused::Fault(JsonFault::NotObject);
+    assert!(rt; body_fault_reads(alloc, no_object, "the body is no JSON object")?);
+    assert!(rt; body_fault_reads(alloc, Refused::Memory, "out of memory")?);
+    let kind = Refused::from(FieldFault::WrongKind(2));
     assert!(rt; field_fault_reads(alloc, kind, "field 2 is of a wrong kind")?);
-    assert!(rt; field_fault_reads(alloc, FieldFault::Memory, "out of memory")?);
-    let wrong = ShapeFault::Wrong {
+    assert!(rt; field_fault_reads(alloc, Refused::Memory, "out of memory")?);
+    let wrong = Refused::Fault(ShapeFault::Wrong {
         series: 1,
         sample: 3,
-    };
+    });
     assert!(rt; shape_fault_reads(alloc, wrong, "another shape at series 1, sample 3")?);
-    assert!(rt; shape_fault_reads(alloc, ShapeFault::Memory, "out of memory")?);
+    assert!(rt; shape_fault_reads(alloc, Refused::Memory, "out of memory")?);
     Ok(())
 }
 

@@ -1,5 +1,5 @@
 -- A body has one answer.
-use Rattle.std.proofs.Common.{◌≡◌, ◌≢◌, ◌⊎◌, ⊎_elim, inl, inr, ℕ, List, [], Option, Some, None, Result, Ok, Err, refl, sym, ap, ◌∙◌, subst}
+use Rattle.std.proofs.Common.{◌≡◌, ◌⊎◌, ⊎_elim, inl, inr, ℕ, List, [], Option, Some, None, Result, Ok, Err, refl, sym, ap, ◌∙◌, subst}
 use Rattle.std.specs.Prelude.{IsSome, IsSomeAnd, MatchOption, slice_get}
 use Rattle.std.proofs.lemmas.Bool.{true≢false}
 use Rattle.std.proofs.lemmas.Option.{none-some}
@@ -14,10 +14,10 @@ use Rattle.json_bodies.specs.declared.push.ShapeFault.TheVariants.{Wrong as wron
 use Rattle.json_bodies.proofs.ExclusionLemmas.{no_push}
 use Rattle.profile_model.specs.declared.profile.Profile.{Profile}
 use Rattle.profile_model.specs.declared.push.Push.{Push}
-use Rattle.json_push.specs.Laws.{AreSameAnswers, IsAnswer}
+use Rattle.json_push.specs.Laws.{IsAnswer}
 use Rattle.json_push.specs.Pushed.{IsFaultOfSeries, IsPushFault, SaysPushed, Series, SeriesGive}
 use Rattle.json_push.specs.declared.fault.PushFault.{PushFault}
-use Rattle.json_push.specs.declared.fault.PushFault.TheVariants.{NotObject, Shape, Memory}
+use Rattle.json_push.specs.declared.fault.PushFault.TheVariants.{NotObject, Shape}
 use Rattle.json_push.proofs.SeriesAnswers.{fault_of_series_once, give_not_fault, series_once}
 
 some_once : {X : Type 0} (o : Option X) (x y : X) → o ≡ Some x → o ≡ Some y → x ≡ y
@@ -77,11 +77,10 @@ module _ (body : List ℕ) (moment : ℕ) where
   abbrev IsNoObjectFault : PushFault → Type 0
   IsNoObjectFault wrong = (wrong ≡ NotObject) × IsReadObject body (Err no_object)
 
-  kind_of : (wrong : PushFault) → wrong ≢ Memory → IsPushFault body moment wrong → IsNoObjectFault wrong ⊎ (IsWrongShape wrong ⊎ IsWrongSeries wrong)
-  kind_of NotObject answered h = inl (refl, h)
-  kind_of (Shape series sample) answered h = inr (inl (record { series = series; sample = sample; is = refl; value = h.0; object_is = h.1; fault = h.2 }))
-  kind_of Memory answered h = absurd (answered refl)
-  kind_of wrong answered h = inr (inr (record { value = h.0; series = h.1; object_is = h.2; shape = h.3; fault = h.4 }))
+  kind_of : (wrong : PushFault) → IsPushFault body moment wrong → IsNoObjectFault wrong ⊎ (IsWrongShape wrong ⊎ IsWrongSeries wrong)
+  kind_of NotObject h = inl (refl, h)
+  kind_of (Shape series sample) h = inr (inl (record { series = series; sample = sample; is = refl; value = h.0; object_is = h.1; fault = h.2 }))
+  kind_of wrong h = inr (inr (record { value = h.0; series = h.1; object_is = h.2; shape = h.3; fault = h.4 }))
 
   shape_once : (wrong other : PushFault) → IsWrongShape wrong → IsWrongShape other → wrong ≡ other
   shape_once wrong other h k =
@@ -104,43 +103,42 @@ module _ (body : List ℕ) (moment : ℕ) where
       fault_of_series_once moment k.series wrong other
       (subst (λ series. IsFaultOfSeries moment series wrong) (series_same h.value k.value h.series k.series h.object_is k.object_is h.shape k.shape) h.fault) k.fault
 
-  push_fault_once : (wrong other : PushFault) → wrong ≢ Memory → other ≢ Memory → IsPushFault body moment wrong → IsPushFault body moment other → wrong ≡ other
-  push_fault_once wrong other answered answered' h k =
+  push_fault_once : (wrong other : PushFault) → IsPushFault body moment wrong → IsPushFault body moment other → wrong ≡ other
+  push_fault_once wrong other h k =
       ⊎_elim
       (λ none. ⊎_elim (λ none'. none.0 ∙ sym none'.0)
       (λ some'. ⊎_elim (λ shape'. absurd (value_not_none body shape'.value shape'.object_is none.1)) (λ series'. absurd (value_not_none body series'.value series'.object_is none.1)) some')
-      (kind_of other answered' k))
+      (kind_of other k))
       (λ some. ⊎_elim
       (λ shape. ⊎_elim (λ none'. absurd (value_not_none body shape.value shape.object_is none'.1))
       (λ some'. ⊎_elim (λ shape'. shape_once wrong other shape shape') (λ series'. absurd (shape_not_series wrong series'.value series'.series shape series'.object_is series'.shape)) some')
-      (kind_of other answered' k))
+      (kind_of other k))
       (λ series. ⊎_elim (λ none'. absurd (value_not_none body series.value series.object_is none'.1))
       (λ some'. ⊎_elim (λ shape'. absurd (shape_not_series other series.value series.series shape' series.object_is series.shape)) (λ series'. wrong_series_once wrong other series series') some')
-      (kind_of other answered' k))
+      (kind_of other k))
       some)
-      (kind_of wrong answered h)
+      (kind_of wrong h)
 
   said_once : (profiles others : List Profile) → SaysPushed body moment profiles → SaysPushed body moment others → profiles ≡ others
   said_once profiles others h k =
       series_once moment [] k.series profiles others
       (subst (λ series. SeriesGive moment [] series profiles) (series_same h.value k.value h.series k.series h.object k.object h.shape k.shape) h.gives) k.gives
 
-  said_not_fault : (profiles : List Profile) (wrong : PushFault) → wrong ≢ Memory → SaysPushed body moment profiles → IsPushFault body moment wrong → ⊥
-  said_not_fault profiles wrong answered h k =
+  said_not_fault : (profiles : List Profile) (wrong : PushFault) → SaysPushed body moment profiles → IsPushFault body moment wrong → ⊥
+  said_not_fault profiles wrong h k =
       ⊎_elim (λ none. value_not_none body h.value h.object none.1)
       (λ some. ⊎_elim (λ shape. shape_not_series wrong h.value h.series shape h.object h.shape)
       (λ series. give_not_fault moment series.series profiles wrong
       (subst (λ all. SeriesGive moment [] all profiles) (series_same h.value series.value h.series series.series h.object series.object_is h.shape series.shape) h.gives)
       series.fault)
       some)
-      (kind_of wrong answered k)
+      (kind_of wrong k)
 
-  pub one_answer : (tenant : List ℕ) (first second : Result Push PushFault) → IsAnswer tenant body moment first → IsAnswer tenant body moment second → AreSameAnswers first second
-  one_answer tenant (Ok push) (Ok other) h k answered answered' =
+  pub one_answer : (tenant : List ℕ) (first second : Result Push PushFault) → IsAnswer tenant body moment first → IsAnswer tenant body moment second → first ≡ second
+  one_answer tenant (Ok push) (Ok other) h k =
       let own = h.0 ∙ sym k.0 in
       let profiles = said_once push.profiles other.profiles h.1 k.1 in
       λ i. Ok (record { tenant = own i; profiles = profiles i })
-  one_answer tenant (Ok push) (Err wrong) h k answered answered' = absurd (said_not_fault push.profiles wrong (λ none. answered' (ap Err none)) h.1 k)
-  one_answer tenant (Err wrong) (Ok push) h k answered answered' = absurd (said_not_fault push.profiles wrong (λ none. answered (ap Err none)) k.1 h)
-  one_answer tenant (Err wrong) (Err other) h k answered answered' =
-      ap Err (push_fault_once wrong other (λ none. answered (ap Err none)) (λ none. answered' (ap Err none)) h k)
+  one_answer tenant (Ok push) (Err wrong) h k = absurd (said_not_fault push.profiles wrong h.1 k)
+  one_answer tenant (Err wrong) (Ok push) h k = absurd (said_not_fault push.profiles wrong k.1 h)
+  one_answer tenant (Err wrong) (Err other) h k = ap Err (push_fault_once wrong other h k)

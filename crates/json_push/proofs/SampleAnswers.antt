@@ -3,11 +3,12 @@ use Rattle.std.proofs.Common.{◌≡◌, ℕ, suc, ◌+◌, ◌<◌, ◌≤◌, 
 use Rattle.base64.specs.Engines.{standard}
 use Rattle.base64.specs.GeneralPurpose.{decode_of}
 use Rattle.base64.proofs.EngineFacts.{decode_of-encode_of}
-use Rattle.ingest.specs.Ingests.{weight_of}
 use Rattle.pprof_codec.specs.Read.{AreProfilesOf, IsFirstFault}
 use Rattle.pprof_codec.specs.declared.base.Base.{Base}
 use Rattle.pprof_codec.specs.declared.fault.PprofFault.{PprofFault}
 use Rattle.pprof_codec.proofs.AnswerLemmas.{fault_once, profiles_not_fault, profiles_once}
+use Rattle.profile_model.specs.Limits.{most_profiles}
+use Rattle.profile_model.specs.Weights.{weight_in_push}
 use Rattle.profile_model.specs.declared.profile.Profile.{Profile}
 use Rattle.json_push.specs.Pushed.{Fits, IsBase64Of, IsSample, IsSampleFault, SamplesGive}
 use Rattle.json_push.specs.declared.fault.PushFault.{PushFault}
@@ -39,36 +40,36 @@ module _ (base : Base) (raw : List ℕ) where
   module _ (i j : ℕ) (before : List Profile) where
     fits_not_fault : (profiles : List Profile) (wrong : PushFault) → IsSample base raw profiles → Fits (before ++ profiles) → IsSampleFault i j base before raw wrong → ⊥
     fits_not_fault profiles (NotBase64 series sample) h fits k = k.2 h.bytes h.encoded
-    fits_not_fault profiles (Pprof series sample wrong) h fits k = sample_not_pprof_fault profiles k.3.0 wrong h k.3.1 k.3.2
+    fits_not_fault profiles (Pprof series sample wrong) h fits k = sample_not_pprof_fault profiles k.2.0 wrong h k.2.1 k.2.2
     fits_not_fault profiles (TooMany series sample) h fits k =
         let same = ap (λ ps. length (before ++ ps)) (sample_once profiles k.2.0 h k.2.1) in let few = fits.few in let many = k.2.2 in omega arith
     fits_not_fault profiles (Weight series sample) h fits k =
-        let same = ap (λ ps. weight_of (before ++ ps)) (sample_once profiles k.2.0 h k.2.1) in let light = fits.light in let heavy = k.2.3 in omega arith
+        let same = ap (λ ps. weight_in_push (before ++ ps)) (sample_once profiles k.2.0 h k.2.1) in let light = fits.light in let heavy = k.2.3 in omega arith
     fits_not_fault profiles wrong h fits k = k
 
     many_not_heavy : (profiles others : List Profile) → IsSample base raw profiles → IsSample base raw others
-        → 4096 < length (before ++ profiles) → length (before ++ others) ≤ 4096 → ⊥
+        → most_profiles < length (before ++ profiles) → length (before ++ others) ≤ most_profiles → ⊥
     many_not_heavy profiles others h k many few = let same = ap (λ ps. length (before ++ ps)) (sample_once profiles others h k) in omega arith
 
     sample_fault_once : (wrong other : PushFault) → IsSampleFault i j base before raw wrong → IsSampleFault i j base before raw other → wrong ≡ other
     sample_fault_once (NotBase64 a b) (NotBase64 c d) h k = λ n. NotBase64 ((h.0 ∙ sym k.0) n) ((h.1 ∙ sym k.1) n)
-    sample_fault_once (NotBase64 a b) (Pprof c d wrong) h k = absurd (h.2 k.3.0 k.3.1)
+    sample_fault_once (NotBase64 a b) (Pprof c d wrong) h k = absurd (h.2 k.2.0 k.2.1)
     sample_fault_once (NotBase64 a b) (TooMany c d) h k = absurd (h.2 k.2.1.bytes k.2.1.encoded)
     sample_fault_once (NotBase64 a b) (Weight c d) h k = absurd (h.2 k.2.1.bytes k.2.1.encoded)
     sample_fault_once (NotBase64 a b) other h k = absurd k
-    sample_fault_once (Pprof a b wrong) (NotBase64 c d) h k = absurd (k.2 h.3.0 h.3.1)
+    sample_fault_once (Pprof a b wrong) (NotBase64 c d) h k = absurd (k.2 h.2.0 h.2.1)
     sample_fault_once (Pprof a b wrong) (Pprof c d again) h k =
-        let same = pprof_fault_once h.3.0 k.3.0 wrong again h.3.1 k.3.1 h.3.2 k.3.2 in λ n. Pprof ((h.0 ∙ sym k.0) n) ((h.1 ∙ sym k.1) n) (same n)
-    sample_fault_once (Pprof a b wrong) (TooMany c d) h k = absurd (sample_not_pprof_fault k.2.0 h.3.0 wrong k.2.1 h.3.1 h.3.2)
-    sample_fault_once (Pprof a b wrong) (Weight c d) h k = absurd (sample_not_pprof_fault k.2.0 h.3.0 wrong k.2.1 h.3.1 h.3.2)
+        let same = pprof_fault_once h.2.0 k.2.0 wrong again h.2.1 k.2.1 h.2.2 k.2.2 in λ n. Pprof ((h.0 ∙ sym k.0) n) ((h.1 ∙ sym k.1) n) (same n)
+    sample_fault_once (Pprof a b wrong) (TooMany c d) h k = absurd (sample_not_pprof_fault k.2.0 h.2.0 wrong k.2.1 h.2.1 h.2.2)
+    sample_fault_once (Pprof a b wrong) (Weight c d) h k = absurd (sample_not_pprof_fault k.2.0 h.2.0 wrong k.2.1 h.2.1 h.2.2)
     sample_fault_once (Pprof a b wrong) other h k = absurd k
     sample_fault_once (TooMany a b) (NotBase64 c d) h k = absurd (k.2 h.2.1.bytes h.2.1.encoded)
-    sample_fault_once (TooMany a b) (Pprof c d wrong) h k = absurd (sample_not_pprof_fault h.2.0 k.3.0 wrong h.2.1 k.3.1 k.3.2)
+    sample_fault_once (TooMany a b) (Pprof c d wrong) h k = absurd (sample_not_pprof_fault h.2.0 k.2.0 wrong h.2.1 k.2.1 k.2.2)
     sample_fault_once (TooMany a b) (TooMany c d) h k = λ n. TooMany ((h.0 ∙ sym k.0) n) ((h.1 ∙ sym k.1) n)
     sample_fault_once (TooMany a b) (Weight c d) h k = absurd (many_not_heavy h.2.0 k.2.0 h.2.1 k.2.1 h.2.2 k.2.2)
     sample_fault_once (TooMany a b) other h k = absurd k
     sample_fault_once (Weight a b) (NotBase64 c d) h k = absurd (k.2 h.2.1.bytes h.2.1.encoded)
-    sample_fault_once (Weight a b) (Pprof c d wrong) h k = absurd (sample_not_pprof_fault h.2.0 k.3.0 wrong h.2.1 k.3.1 k.3.2)
+    sample_fault_once (Weight a b) (Pprof c d wrong) h k = absurd (sample_not_pprof_fault h.2.0 k.2.0 wrong h.2.1 k.2.1 k.2.2)
     sample_fault_once (Weight a b) (TooMany c d) h k = absurd (many_not_heavy k.2.0 h.2.0 k.2.1 h.2.1 k.2.2 h.2.2)
     sample_fault_once (Weight a b) (Weight c d) h k = λ n. Weight ((h.0 ∙ sym k.0) n) ((h.1 ∙ sym k.1) n)
     sample_fault_once (Weight a b) other h k = absurd k

@@ -1,13 +1,12 @@
 -- Series give one list of profiles, or have one first fault.
-use Rattle.std.proofs.Common.{◌≡◌, ◌≢◌, ◌⊎◌, ⊎_elim, inl, inr, ℕ, suc, ◌+◌, List, [], ◌∷◌, ◌++◌, length, Err, refl, sym, ap, ◌∙◌, subst, arith}
-use Rattle.ingest.specs.Series.{kind_name, own_labels}
-use Rattle.ingest.proofs.LabelAnswers.{fault_once, read_not_fault, read_once}
+use Rattle.std.proofs.Common.{◌≡◌, ◌⊎◌, ⊎_elim, inl, inr, ℕ, suc, ◌+◌, List, [], ◌∷◌, ◌++◌, length, Err, refl, sym, ap, ◌∙◌, subst, arith}
 use Rattle.pprof_codec.specs.declared.base.Base.{Base}
 use Rattle.pprof_codec.proofs.AnswerLemmas.{base_once}
+use Rattle.profile_model.proofs.ReadLabelLemmas.{fault_once, read_not_fault, read_once}
 use Rattle.profile_model.specs.LabelSets.{Label as Pair}
 use Rattle.profile_model.specs.ReadLabels.{IsReadLabels}
+use Rattle.profile_model.specs.Series.{kind_name, own_labels}
 use Rattle.profile_model.specs.declared.labels.LabelFault.{LabelFault}
-use Rattle.profile_model.specs.declared.labels.LabelFault.TheVariants.{Memory as no_memory}
 use Rattle.profile_model.specs.declared.profile.Profile.{Profile}
 use Rattle.json_push.specs.Pushed.{IsBaseOf, IsFaultOfSeries, IsSampleFault, IsSeriesFault, SamplesGive, Series, SeriesGive, with_service}
 use Rattle.json_push.specs.declared.fault.PushFault.{PushFault}
@@ -26,7 +25,6 @@ module _ (moment : ℕ) where
   record IsOfLabels (i : ℕ) (one : Series) (wrong : PushFault) : Type 0 where
     fault : LabelFault
     is : wrong ≡ Label i fault
-    answered : fault ≢ no_memory
     read : IsReadLabels one.0 (Err fault)
 
   -- it is that of its first sample that has one
@@ -48,11 +46,11 @@ module _ (moment : ℕ) where
 
   parted : (i : ℕ) (before : List Profile) (one : Series) (wrong : PushFault) → IsSeriesFault moment i before one wrong
       → IsOfLabels i one wrong ⊎ IsOfSamples i before one wrong
-  parted i before one (Label series fault) h = inl (record { fault = fault; is = ap (λ n. Label n fault) h.0; answered = h.1; read = h.2 })
+  parted i before one (Label series fault) h = inl (record { fault = fault; is = ap (λ n. Label n fault) h.0; read = h.1 })
   parted i before one wrong h = inr (of_samples i before one wrong h.0 h.1 h.2 h.3 h.4 h.5 h.6 h.7 h.8)
 
   based_not_label_fault : (i : ℕ) (one : Series) (base : Base) (wrong : PushFault) → IsBaseOf moment one.0 base → IsOfLabels i one wrong → ⊥
-  based_not_label_fault i one base wrong h k = read_not_fault one.0 h.labels k.fault k.answered h.read k.read
+  based_not_label_fault i one base wrong h k = read_not_fault one.0 h.labels k.fault h.read k.read
 
   samples_parted_once : (i : ℕ) (before : List Profile) (one : Series) (wrong other : PushFault) → IsOfSamples i before one wrong → IsOfSamples i before one other → wrong ≡ other
   samples_parted_once i before one wrong other h k =
@@ -64,7 +62,7 @@ module _ (moment : ℕ) where
   series_fault_once i before one wrong other h k =
       ⊎_elim
       (λ labels. ⊎_elim
-      (λ labels'. labels.is ∙ ap (Label i) (fault_once one.0 labels.fault labels'.fault labels.answered labels'.answered labels.read labels'.read) ∙ sym labels'.is)
+      (λ labels'. labels.is ∙ ap (Label i) (fault_once one.0 labels.fault labels'.fault labels.read labels'.read) ∙ sym labels'.is)
       (λ samples'. absurd (based_not_label_fault i one samples'.base wrong samples'.based labels)) (parted i before one other k))
       (λ samples. ⊎_elim (λ labels'. absurd (based_not_label_fault i one samples.base other samples.based labels'))
       (λ samples'. samples_parted_once i before one wrong other samples samples') (parted i before one other k))

@@ -1,12 +1,10 @@
 -- What a JSON push says (the pusher service of Pyroscope's API; RFC 4648 for base64). The bounds and the order of the
 -- faults are this project's own.
-use Rattle.std.specs.Prelude.{◌≡◌, ◌≢◌, ℕ, ◌<◌, ◌≤◌, List, [], ◌∷◌, ◌++◌, length, codes, Some, Ok, Err, if◌then◌else◌}
+use Rattle.std.specs.Prelude.{◌≡◌, ℕ, ◌<◌, ◌≤◌, List, [], ◌∷◌, ◌++◌, length, codes, Some, Ok, Err, if◌then◌else◌}
 use Rattle.std.specs.BTreeMap.{insert_entry}
 use Rattle.base64.specs.Engines.{standard}
 use Rattle.base64.specs.GeneralPurpose.{encode_of, IsBytes}
 use Rattle.serde_json.specs.Data.{Data}
-use Rattle.ingest.specs.Series.{kind_name, own_labels}
-use Rattle.ingest.specs.Ingests.{weight_of}
 use Rattle.json_bodies.specs.Objects.{IsReadObject}
 use Rattle.json_bodies.specs.Pushes.{push_in}
 use Rattle.json_bodies.specs.PushFaults.{IsShapeFault}
@@ -14,11 +12,12 @@ use Rattle.json_bodies.specs.declared.object.JsonFault.TheVariants.{NotObject as
 use Rattle.json_bodies.specs.declared.push.ShapeFault.TheVariants.{Wrong as wrong_shape}
 use Rattle.pprof_codec.specs.Read.{AreProfilesOf, IsFirstFault}
 use Rattle.pprof_codec.specs.declared.base.Base.{Base}
-use Rattle.pprof_codec.specs.declared.fault.PprofFault.TheVariants.{Memory as no_room}
 use Rattle.profile_model.specs.LabelSets.{Label, has_label}
+use Rattle.profile_model.specs.Limits.{most_profiles, most_weight}
 use Rattle.profile_model.specs.ReadLabels.{IsReadLabels}
+use Rattle.profile_model.specs.Series.{kind_name, own_labels}
 use Rattle.profile_model.specs.Stacks.{name_cmp}
-use Rattle.profile_model.specs.declared.labels.LabelFault.TheVariants.{Memory as no_memory}
+use Rattle.profile_model.specs.Weights.{weight_in_push}
 use Rattle.profile_model.specs.declared.profile.Profile.{Profile}
 use Rattle.json_push.specs.declared.fault.PushFault.{PushFault}
 use Rattle.json_push.specs.declared.fault.PushFault.TheVariants as fault
@@ -57,19 +56,19 @@ pub record IsSample (base : Base) (raw : List ℕ) (profiles : List Profile) : T
 
 -- a push may be of these profiles
 pub record Fits (profiles : List Profile) : Type 0 where
-  pub few : length profiles ≤ 4096
-  pub light : weight_of profiles ≤ 268435456
+  pub few : length profiles ≤ most_profiles
+  pub light : weight_in_push profiles ≤ most_weight
 
 -- the first fault of a raw profile, where the push has these profiles before
 abbrev pub IsSampleFault : ℕ → ℕ → Base → List Profile → List ℕ → PushFault → Type 0
 IsSampleFault i j base before raw (fault.NotBase64 series sample) = (series ≡ i) × (sample ≡ j) × ((bytes : List ℕ) → ¬ (IsBase64Of raw bytes))
 IsSampleFault i j base before raw (fault.Pprof series sample wrong) =
-    (series ≡ i) × (sample ≡ j) × (wrong ≢ no_room) × ((bytes : List ℕ) × IsBase64Of raw bytes × IsFirstFault base bytes wrong)
+    (series ≡ i) × (sample ≡ j) × ((bytes : List ℕ) × IsBase64Of raw bytes × IsFirstFault base bytes wrong)
 IsSampleFault i j base before raw (fault.TooMany series sample) =
-    (series ≡ i) × (sample ≡ j) × ((profiles : List Profile) × IsSample base raw profiles × (4096 < length (before ++ profiles)))
+    (series ≡ i) × (sample ≡ j) × ((profiles : List Profile) × IsSample base raw profiles × (most_profiles < length (before ++ profiles)))
 IsSampleFault i j base before raw (fault.Weight series sample) =
     (series ≡ i) × (sample ≡ j)
-    × ((profiles : List Profile) × IsSample base raw profiles × (length (before ++ profiles) ≤ 4096) × (268435456 < weight_of (before ++ profiles)))
+    × ((profiles : List Profile) × IsSample base raw profiles × (length (before ++ profiles) ≤ most_profiles) × (most_weight < weight_in_push (before ++ profiles)))
 IsSampleFault i j base before raw wrong = ⊥
 
 -- ---- all samples of a series, and all series
@@ -98,7 +97,7 @@ pub record SaysPushed (body : List ℕ) (moment : ℕ) (profiles : List Profile)
 
 -- the first fault of a series: of its labels, or of the first sample that has one
 abbrev pub IsSeriesFault : ℕ → ℕ → List Profile → Series → PushFault → Type 0
-IsSeriesFault moment i before one (fault.Label series wrong) = (series ≡ i) × (wrong ≢ no_memory) × IsReadLabels one.0 (Err wrong)
+IsSeriesFault moment i before one (fault.Label series wrong) = (series ≡ i) × IsReadLabels one.0 (Err wrong)
 IsSeriesFault moment i before one wrong =
     (base : Base) × (first : List (List ℕ)) × (raw : List ℕ) × (last : List (List ℕ)) × (between : List Profile)
     × IsBaseOf moment one.0 base × (one.1 ≡ first ++ raw ∷ last) × SamplesGive base before first between
@@ -115,6 +114,5 @@ abbrev pub IsPushFault : List ℕ → ℕ → PushFault → Type 0
 IsPushFault body moment fault.NotObject = IsReadObject body (Err no_object)
 IsPushFault body moment (fault.Shape series sample) =
     (value : Data) × IsReadObject body (Ok value) × IsShapeFault value (wrong_shape series sample)
-IsPushFault body moment fault.Memory = Unit {0}
 IsPushFault body moment wrong =
     (value : Data) × (series : List Series) × IsReadObject body (Ok value) × (push_in value ≡ Some series) × IsFaultOfSeries moment series wrong

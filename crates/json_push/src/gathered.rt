@@ -1,12 +1,13 @@
 // The profiles of a push up to some sample.
-ghost use Rattle.std.specs.Prelude.{◌≡◌, ◌-◌, ◌^◌, ◌++◌, [], min, sum_by, MatchResult};
-ghost use Rattle.profile_model.specs.Weights.{profile_weight};
+ghost use Rattle.std.specs.Prelude.{◌≡◌, ◌-◌, ◌^◌, ◌++◌, [], min, MatchResult};
+ghost use Rattle.faults.specs.Answers.{IfFault};
+ghost use Rattle.profile_model.specs.Weights.{profiles_weight};
 ghost use Rattle.json_push.specs.Pushed.{Fits};
 ghost use Rattle.json_push.specs.Reading.{IsAddFault};
 
 use crate::PushFault;
-use ingest::MAX_WEIGHT;
-use profile_model::{MAX_PROFILES, Profile, Profiles};
+use faults::Refused;
+use profile_model::{MAX_PROFILES, MAX_WEIGHT, Profile, Profiles};
 use std::alloc::Global;
 use std::marker::Model;
 
@@ -48,16 +49,17 @@ impl Gathered {
         mut profiles: Vec<Profile>,
         series: u64,
         sample: u64,
-    ) -> Result<(), PushFault>
+    ) -> Result<(), Refused<PushFault>>
         ensures { MatchResult result
-            (λ _. (self.new ≡ self.old ++ profiles.items) × Fits self.new) (IsAddFault series sample self.old profiles.items) }
+            (λ _. (self.new ≡ self.old ++ profiles.items) × Fits self.new)
+            (IfFault (IsAddFault series sample self.old profiles.items)) }
     {
         if profiles.len() > MAX_PROFILES - self.profiles.len() {
-            return Err(PushFault::TooMany { series, sample });
+            return Err(Refused::Fault(PushFault::TooMany { series, sample }));
         }
         let weight = self.weight.saturating_add(weight_of_profiles(&profiles));
         if weight > MAX_WEIGHT {
-            return Err(PushFault::Weight { series, sample });
+            return Err(Refused::Fault(PushFault::Weight { series, sample }));
         }
         self.profiles.append(&mut profiles)?;
         self.weight = weight;
@@ -72,7 +74,7 @@ impl Gathered {
 }
 
 fn weight_of_profiles(profiles: &[Profile]) -> u64
-    ensures { result ≡ min (sum_by profile_weight profiles.now) (2 ^ 64 - 1) }
+    ensures { result ≡ min (profiles_weight profiles.now) (2 ^ 64 - 1) }
 {
     let mut weight: u64 = 0;
     for profile in profiles {

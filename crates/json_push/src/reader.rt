@@ -1,13 +1,17 @@
 // The push of a JSON body.
 ghost use Rattle.std.specs.Prelude.{◌≡◌, [], map, MatchResult};
+ghost use Rattle.faults.specs.Answers.{IfAnswered, IfFault, IsMapped};
 ghost use Rattle.json_bodies.specs.PushRead.{series_of};
-ghost use Rattle.json_push.specs.Pushed.{IsFaultOfSeries, IsPushFault, IsSeriesFault, SaysPushed, SeriesGive};
-ghost use Rattle.json_push.specs.Reading.{IsOneSeriesMore, MemoryOr};
+ghost use Rattle.json_push.specs.Laws.{IsAnswer};
+ghost use Rattle.json_push.specs.Pushed.{IsFaultOfSeries, IsSeriesFault, SeriesGive};
+ghost use Rattle.json_push.specs.Reading.{IsOneSeriesMore};
+ghost use Rattle.json_push.specs.declared.fault.PushFault.TheVariants.{Label as of_label};
 
 use crate::PushFault;
 use crate::gathered::Gathered;
 use crate::samples::add_samples;
 use crate::series::base_of;
+use faults::Refused;
 use json_bodies::{JsonFault, JsonObject, PushBody, PushedSeries, ShapeFault};
 use profile_model::{LabelFault, Profiles, Push, Tenant};
 use std::alloc::Global;
@@ -19,30 +23,35 @@ pub fn read_push(
     tenant: Tenant,
     body: &[u8],
     moment_ms: u64,
-) -> Result<Push, PushFault>
-    ensures { MatchResult result
-        (λ push. (push.tenant ≡ tenant) × SaysPushed body.now moment_ms push.profiles) (IsPushFault body.now moment_ms) }
+) -> Result<Push, Refused<PushFault>>
+    ensures read { IfAnswered (IsAnswer tenant body.now moment_ms) result }
 {
     let object = match JsonObject::read(alloc, body) {
         Ok(object) => object,
-        Err(JsonFault::NotObject) => return Err(PushFault::NotObject),
-        Err(JsonFault::Memory) => return Err(PushFault::Memory),
+        Err(Refused::Fault(JsonFault::NotObject)) => {
+            return Err(Refused::Fault(PushFault::NotObject));
+        }
+        Err(Refused::Memory) => return Err(Refused::Memory),
     };
     let said = match PushBody::of(alloc, &object) {
         Ok(said) => said,
-        Err(ShapeFault::Wrong { series, sample }) => {
-            return Err(PushFault::Shape { series, sample });
+        Err(Refused::Fault(ShapeFault::Wrong { series, sample })) => {
+            return Err(Refused::Fault(PushFault::Shape { series, sample }));
         }
-        Err(ShapeFault::Memory) => return Err(PushFault::Memory),
+        Err(Refused::Memory) => return Err(Refused::Memory),
     };
     let profiles = profiles_of(alloc, &said.series, moment_ms)?;
     Ok(Push { tenant, profiles })
 }
 
 // The profiles of all series.
-fn profiles_of(alloc: Global, all: &[PushedSeries], moment_ms: u64) -> Result<Profiles, PushFault>
+fn profiles_of(
+    alloc: Global,
+    all: &[PushedSeries],
+    moment_ms: u64,
+) -> Result<Profiles, Refused<PushFault>>
     ensures { MatchResult result
-        (SeriesGive moment_ms [] (map series_of all.now)) (MemoryOr (IsFaultOfSeries moment_ms (map series_of all.now))) }
+        (SeriesGive moment_ms [] (map series_of all.now)) (IfFault (IsFaultOfSeries moment_ms (map series_of all.now))) }
 {
     let mut push = Gathered::new(alloc);
     for (number, series) in all.iter().enumerate() {
@@ -58,17 +67,20 @@ fn add_series(
     moment_ms: u64,
     number: u64,
     push: &mut Gathered,
-) -> Result<(), PushFault>
+) -> Result<(), Refused<PushFault>>
     ensures { MatchResult result
         (λ _. IsOneSeriesMore moment_ms push.old (series_of series.now) push.new)
-        (MemoryOr (IsSeriesFault moment_ms number push.old (series_of series.now))) }
+        (IfFault (IsSeriesFault moment_ms number push.old (series_of series.now))) }
 {
     match base_of(alloc, &series.labels, moment_ms) {
         Ok(base) => add_samples(alloc, &base, &series.raw_profiles, number, push),
-        Err(LabelFault::Memory) => Err(PushFault::Memory),
-        Err(fault) => Err(PushFault::Label {
-            series: number,
-            fault,
-        }),
+        Err(refused) => Err(of_labels(refused, number)),
     }
+}
+
+// What stops the reading of labels, told of the push that has the series.
+fn of_labels(refused: Refused<LabelFault>, series: u64) -> Refused<PushFault>
+    ensures { IsMapped (λ wrong fault. fault ≡ of_label series wrong) refused result }
+{
+    refused.map(|fault| PushFault::Label { series, fault })
 }

@@ -1,13 +1,16 @@
 // The profiles of the samples of a series.
 ghost use Rattle.std.specs.Prelude.{◌≡◌, List, ℕ, map, IfOk, MatchOption, MatchResult};
+ghost use Rattle.faults.specs.Answers.{IfFault, IsMapped};
 ghost use Rattle.profile_model.specs.declared.profile.Profile.{Profile};
 ghost use Rattle.json_push.specs.Pushed.{IsBase64Of, IsSample, IsSampleFault, SamplesGive};
-ghost use Rattle.json_push.specs.Reading.{IsFaultOfSamples, IsOneMore, MemoryOr, of_pprof};
+ghost use Rattle.json_push.specs.Reading.{IsFaultOfSamples, IsOneMore};
+ghost use Rattle.json_push.specs.declared.fault.PushFault.TheVariants.{Pprof};
 
 use crate::PushFault;
 use crate::gathered::Gathered;
 use base64::DecodeAllocError;
 use base64::engine::general_purpose::STANDARD;
+use faults::Refused;
 use pprof_codec::{Base, PprofFault, read_pprof};
 use profile_model::Profile;
 use std::alloc::{AllocError, Global};
@@ -19,10 +22,10 @@ pub(crate) fn add_samples(
     raws: &[&str],
     series: u64,
     push: &mut Gathered,
-) -> Result<(), PushFault>
+) -> Result<(), Refused<PushFault>>
     ensures { MatchResult result
         (λ _. SamplesGive base.now push.old (map (λ raw. raw.now) raws.now) push.new)
-        (MemoryOr (IsFaultOfSamples series base.now push.old (map (λ raw. raw.now) raws.now))) }
+        (IfFault (IsFaultOfSamples series base.now push.old (map (λ raw. raw.now) raws.now))) }
 {
     for (sample, raw) in raws.iter().enumerate() {
         add_sample(alloc, base, raw, series, sample as u64, push)?;
@@ -37,10 +40,10 @@ fn add_sample(
     series: u64,
     sample: u64,
     push: &mut Gathered,
-) -> Result<(), PushFault>
+) -> Result<(), Refused<PushFault>>
     ensures { MatchResult result
         (λ _. IsOneMore base.now push.old raw.now push.new)
-        (MemoryOr (IsSampleFault series sample base.now push.old raw.now)) }
+        (IfFault (IsSampleFault series sample base.now push.old raw.now)) }
 {
     let profiles = read_sample(alloc, base, raw, series, sample)?;
     push.add(profiles, series, sample)
@@ -53,31 +56,29 @@ fn read_sample(
     raw: &str,
     series: u64,
     sample: u64,
-) -> Result<Vec<Profile>, PushFault>
+) -> Result<Vec<Profile>, Refused<PushFault>>
     ensures { MatchResult result
         (λ profiles. IsSample base.now raw.now profiles.items)
-        (λ fault. (before : List Profile) → MemoryOr (IsSampleFault series sample base.now before raw.now) fault) }
+        (λ refused. (before : List Profile) → IfFault (IsSampleFault series sample base.now before raw.now) refused) }
 {
     let Some(bytes) = decoded(alloc, raw)? else {
-        return Err(PushFault::NotBase64 { series, sample });
+        return Err(Refused::Fault(PushFault::NotBase64 { series, sample }));
     };
     match read_pprof(alloc, &bytes, base) {
         Ok(profiles) => Ok(profiles),
-        Err(fault) => Err(of_pprof(series, sample, fault)),
+        Err(refused) => Err(of_pprof(refused, series, sample)),
     }
 }
 
-fn of_pprof(series: u64, sample: u64, fault: PprofFault) -> PushFault
-    ensures { result ≡ of_pprof series sample fault }
+// What stops the reading of a pprof, told of the push that has the sample.
+fn of_pprof(refused: Refused<PprofFault>, series: u64, sample: u64) -> Refused<PushFault>
+    ensures { IsMapped (λ wrong fault. fault ≡ Pprof series sample wrong) refused result }
 {
-    match fault {
-        PprofFault::Memory => PushFault::Memory,
-        fault => PushFault::Pprof {
-            series,
-            sample,
-            fault,
-        },
-    }
+    refused.map(|fault| PushFault::Pprof {
+        series,
+        sample,
+        fault,
+    })
 }
 
 // The bytes that the text is the base64 of, if it is of any.

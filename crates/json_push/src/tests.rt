@@ -1,10 +1,10 @@
 // Worked pushes, and what no clause says: that the calls succeed with ample memory, and the texts of the faults.
 use crate::{PushFault, read_push};
-use arrayvec::ArrayVec;
 use base64::engine::general_purpose::STANDARD;
+use faults::{Place, Refused};
 use pprof_codec::PprofFault;
 use profile_model::{LabelFault, Profile, ProfileType, Push, Tenant};
-use std::alloc::Global;
+use std::alloc::{AllocError, Global};
 use std::test::Fail;
 
 // A pprof of one sample type: the stack main;leaf with 7 samples.
@@ -23,7 +23,7 @@ fn joined(alloc: Global, parts: &[&str]) -> Result<String, Fail> {
     Ok(text)
 }
 
-fn read(alloc: Global, parts: &[&str]) -> Result<Result<Push, PushFault>, Fail> {
+fn read(alloc: Global, parts: &[&str]) -> Result<Result<Push, Refused<PushFault>>, Fail> {
     let tenant = Tenant::read(alloc, b"shop")?;
     let body = joined(alloc, parts)?;
     Ok(read_push(alloc, tenant, body.as_bytes(), 1_700_000_000_000))
@@ -66,13 +66,11 @@ fn tell(alloc: Global, profile: &Profile, text: &mut String) -> Result<(), Fail>
 }
 
 // The code of the fault and its place; no code where there is no fault.
-fn fault_of(
-    alloc: Global,
-    parts: &[&str],
-) -> Result<(Option<&'static str>, ArrayVec<u64, 3>), Fail> {
+fn fault_of(alloc: Global, parts: &[&str]) -> Result<(Option<&'static str>, Place), Fail> {
     match read(alloc, parts)? {
-        Ok(_push) => Ok((None, ArrayVec::new())),
-        Err(fault) => Ok((fault.code(), fault.place())),
+        Ok(_push) => Ok((None, Place::Whole)),
+        Err(Refused::Fault(fault)) => Ok((Some(fault.code()), fault.place())),
+        Err(Refused::Memory) => Err(Fail::from(AllocError)),
     }
 }
 
@@ -123,68 +121,68 @@ fn each_series_has_its_own_labels_and_samples(rt: HostRuntime) -> Result<(), Fai
 #[test]
 fn the_first_fault_is_told_with_its_place(rt: HostRuntime) -> Result<(), Fail> {
     let alloc = rt.alloc();
-    let whole: [(&str, &str, &[u64]); 3] = [
-        ("[]", "J1", &[]),
-        ("{\"series\":[]", "J1", &[]),
-        ("{\"series\":null}", "J2", &[0, 0]),
+    let whole = [
+        ("[]", "J1", Place::Whole),
+        ("{\"series\":[]", "J1", Place::Whole),
+        ("{\"series\":null}", "J2", Place::Pair(0, 0)),
     ];
     for (body, code, place) in whole {
         let fault = fault_of(alloc, &[body])?;
         assert_eq!(rt; fault.0, Some(code), "{body}");
-        assert_eq!(rt; fault.1.as_slice(), place, "{body}");
+        assert_eq!(rt; fault.1, place, "{body}");
     }
     // The second series, behind one without fault.
-    let seconds: [(&str, &str, &[u64]); 11] = [
-        ("7", "J2", &[1, 0]),
+    let seconds = [
+        ("7", "J2", Place::Pair(1, 0)),
         (
             "{\"labels\":[],\"samples\":[{\"rawProfile\":\"AA\"},{}]}",
             "J2",
-            &[1, 1],
+            Place::Pair(1, 1),
         ),
         (
             "{\"labels\":[{\"name\":\"a\",\"value\":\"1\"},{\"name\":\"\",\"value\":\"\"}],\"samples\":[{\"rawProfile\":\"AA\"}]}",
             "L1",
-            &[1, 1],
+            Place::Pair(1, 1),
         ),
         (
             "{\"labels\":[{\"name\":\"a\",\"value\":\"\"},{\"name\":\"a\",\"value\":\"1\"}],\"samples\":[]}",
             "L3",
-            &[1, 1],
+            Place::Pair(1, 1),
         ),
         (
             "{\"labels\":[],\"samples\":[{\"rawProfile\":\"MgA\"}]}",
             "J4",
-            &[1, 0],
+            Place::Pair(1, 0),
         ),
         (
             "{\"labels\":[],\"samples\":[{\"rawProfile\":\"MgA=\"},{\"rawProfile\":\"MgB=\"}]}",
             "J4",
-            &[1, 1],
+            Place::Pair(1, 1),
         ),
         (
             "{\"labels\":[],\"samples\":[{\"rawProfile\":\"MgA=\"},{\"rawProfile\":\"H4sI\"}]}",
             "J5",
-            &[1, 1, 13],
+            Place::Triple(1, 1, 13),
         ),
         (
             "{\"labels\":[],\"samples\":[{\"rawProfile\":\"CA==\"},{\"rawProfile\":\"AA\"}]}",
             "J5",
-            &[1, 0, 1],
+            Place::Triple(1, 0, 1),
         ),
         (
             "{\"labels\":[],\"samples\":[{\"rawProfile\":\"\"}]}",
             "J5",
-            &[1, 0, 2],
+            Place::Triple(1, 0, 2),
         ),
         (
             "{\"labels\":[],\"samples\":[{\"rawProfile\":\"CA==\"}]},{\"labels\":[{\"name\":\"\",\"value\":\"\"}],\"samples\":[]}",
             "J5",
-            &[1, 0, 1],
+            Place::Triple(1, 0, 1),
         ),
         (
             "{\"labels\":[],\"samples\":[]},{\"labels\":[{\"name\":\"\",\"value\":\"\"}],\"samples\":[]}",
             "L1",
-            &[2, 0],
+            Place::Pair(2, 0),
         ),
     ];
     for (series, code, place) in seconds {
@@ -199,7 +197,7 @@ fn the_first_fault_is_told_with_its_place(rt: HostRuntime) -> Result<(), Fail> {
             ],
         )?;
         assert_eq!(rt; fault.0, Some(code), "{series}");
-        assert_eq!(rt; fault.1.as_slice(), place, "{series}");
+        assert_eq!(rt; fault.1, place, "{series}");
     }
     Ok(())
 }
@@ -239,12 +237,12 @@ fn bare_types(alloc: Global, count: u64) -> Result<String, Fail> {
 #[test]
 fn labels_are_bounded(rt: HostRuntime) -> Result<(), Fail> {
     let alloc = rt.alloc();
-    let cases: [(u64, u64, u64, Option<&str>, &[u64]); 5] = [
-        (30, 1024, 2048, None, &[]),
-        (31, 3, 0, None, &[]),
-        (31, 3, 1, Some("L4"), &[0]),
-        (2, 1025, 1, Some("L1"), &[0, 0]),
-        (2, 3, 2049, Some("L2"), &[0, 0]),
+    let cases: [(u64, u64, u64, Option<&str>, Place); 5] = [
+        (30, 1024, 2048, None, Place::Whole),
+        (31, 3, 0, None, Place::Whole),
+        (31, 3, 1, Some("L4"), Place::At(0)),
+        (2, 1025, 1, Some("L1"), Place::Pair(0, 0)),
+        (2, 3, 2049, Some("L2"), Place::Pair(0, 0)),
     ];
     for (count, name, value, code, place) in cases {
         let labels = long_labels(alloc, count, name, value)?;
@@ -257,7 +255,7 @@ fn labels_are_bounded(rt: HostRuntime) -> Result<(), Fail> {
             ],
         )?;
         assert_eq!(rt; fault.0, code, "{count} {name} {value}");
-        assert_eq!(rt; fault.1.as_slice(), place, "{count} {name} {value}");
+        assert_eq!(rt; fault.1, place, "{count} {name} {value}");
     }
     Ok(())
 }
@@ -266,13 +264,13 @@ fn labels_are_bounded(rt: HostRuntime) -> Result<(), Fail> {
 fn a_push_is_bounded(rt: HostRuntime) -> Result<(), Fail> {
     let alloc = rt.alloc();
     // Labels of 90 kilobytes: 2,048 profiles with them are within the bound, and twice as many are not.
-    let cases: [(u64, u64, u64, Option<&str>, &[u64]); 6] = [
-        (0, 4095, 1, None, &[]),
-        (0, 4096, 0, None, &[]),
-        (0, 4096, 1, Some("J6"), &[0, 1]),
-        (30, 2048, 1, None, &[]),
-        (30, 2048, 2048, Some("J7"), &[0, 1]),
-        (30, 2048, 4096, Some("J5"), &[0, 1, 14]),
+    let cases: [(u64, u64, u64, Option<&str>, Place); 6] = [
+        (0, 4095, 1, None, Place::Whole),
+        (0, 4096, 0, None, Place::Whole),
+        (0, 4096, 1, Some("J6"), Place::Pair(0, 1)),
+        (30, 2048, 1, None, Place::Whole),
+        (30, 2048, 2048, Some("J7"), Place::Pair(0, 1)),
+        (30, 2048, 4096, Some("J5"), Place::Triple(0, 1, 14)),
     ];
     for (count, first, second, code, place) in cases {
         let labels = long_labels(alloc, count, 1000, 2000)?;
@@ -291,7 +289,7 @@ fn a_push_is_bounded(rt: HostRuntime) -> Result<(), Fail> {
             ],
         )?;
         assert_eq!(rt; fault.0, code, "{count} {place:?}");
-        assert_eq!(rt; fault.1.as_slice(), place, "{count} {place:?}");
+        assert_eq!(rt; fault.1, place, "{count} {place:?}");
     }
     Ok(())
 }
@@ -332,10 +330,12 @@ fn faults_are_told_in_words(rt: HostRuntime) -> Result<(), Fail> {
             PushFault::Weight { series, sample },
             "the push is too large at series 2, sample 3",
         ),
-        (PushFault::Memory, "out of memory"),
     ] {
         let told = fault.to_string(rt.alloc())?;
         assert_eq!(rt; told.as_str(), words);
     }
+    let memory: Refused<PushFault> = Refused::Memory;
+    let told = memory.to_string(rt.alloc())?;
+    assert_eq!(rt; told.as_str(), "out of memory");
     Ok(())
 }

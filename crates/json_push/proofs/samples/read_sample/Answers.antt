@@ -4,6 +4,5 @@ use Rattle.json_push.proofs.samples.read_sample.Goals as goal
 
 pub returns : goal.returns
 returns c = λ before.
-    rw c.of_pprof.ensures
-    (sample_fault c.args.series c.args.sample c.args.base.now before c.args.raw.now c.deref.result.now Global c.in-Err.fault
-    (rw c.deref.ensures.value (rw c.in-Some.is at c.in_ok-bytes.ensures)) c.in-Err.ensures.read)
+    sample_fault c.args.series c.args.sample c.args.base.now before c.args.raw.now c.deref.result.now Global c.in-Err.refused c.of_pprof.result
+    (rw c.deref.ensures.value (rw c.in-Some.is at c.in_ok-bytes.ensures)) c.in-Err.ensures.read c.of_pprof.ensures

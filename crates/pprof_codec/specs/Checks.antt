@@ -1,8 +1,9 @@
 -- The faults of a pprof, check by check. Which members may name which, and that ids aren't 0 and differ, is pprof's
 -- profile.proto; that values aren't negative, the limits and the order are this project's own rules.
-use Rattle.std.specs.Prelude.{◌==◌, ℕ, ◌^◌, ℤ, pos, negsuc, Bool, true, false, not, ◌&&◌, ◌||◌, List, [], ◌∷◌, ◌++◌, length, map, take, nat_lt, is_some, Option, Some, None, if◌then◌else◌}
+use Rattle.std.specs.Prelude.{◌==◌, ℕ, ℤ, pos, negsuc, Bool, true, false, not, ◌&&◌, ◌||◌, List, [], ◌∷◌, ◌++◌, length, map, take, nat_lt, is_some, Option, Some, None, if◌then◌else◌}
 use Rattle.std.specs.List.{enumerate_from, flat_map, list_all, list_any}
 use Rattle.std.specs.Str.{is_utf8}
+use Rattle.profile_model.specs.Limits.{most_frame_bytes, most_frames, most_profiles, most_weight, total_bound}
 use Rattle.profile_model.specs.Sums.{total_of}
 use Rattle.pprof_message.specs.declared.lists.ValueType.{ValueType}
 use Rattle.pprof_message.specs.declared.lists.Label.{Label}
@@ -73,7 +74,7 @@ faults_of_function texts ids number function =
     fault_if (function.id == 0) (ZeroId members.Function number)
     ++ fault_if (has_id ids function.id) (RepeatedId members.Function number)
     ++ fault_if (not (has_names texts function)) (NoSuchText members.Function number)
-    ++ fault_if (nat_lt 65535 (length (function_frame texts function))) (LongFrame number)
+    ++ fault_if (nat_lt most_frame_bytes (length (function_frame texts function))) (LongFrame number)
 
 unfoldable pub function_faults : List (List ℕ) → List Function → List PprofFault
 function_faults texts functions =
@@ -110,7 +111,7 @@ unfoldable pub faults_of_sample : Pprof → ℕ → Sample → List PprofFault
 faults_of_sample pprof number sample =
     fault_if (not (length sample.values == length pprof.sample_types)) (WrongValueCount number)
     ++ fault_if (not (list_all (λ id. is_some (location_with pprof id)) sample.location_ids)) (NoSuchLocation number)
-    ++ fault_if (nat_lt 1024 (length (stack_of pprof sample))) (TooDeep number)
+    ++ fault_if (nat_lt most_frames (length (stack_of pprof sample))) (TooDeep number)
     ++ fault_if (not (list_all (has_label_texts pprof.texts) sample.labels)) (NoSuchText members.Sample number)
     ++ faults_of_each (faults_of_value number) sample.values
 
@@ -121,11 +122,11 @@ sample_faults pprof = faults_of_each (faults_of_sample pprof) pprof.samples
 
 unfoldable pub total_faults : Pprof → List PprofFault
 total_faults pprof =
-    faults_of_each (λ number kind. fault_if (not (nat_lt (total_of (samples_of pprof number)) (2 ^ 63))) (TooLarge number)) pprof.sample_types
+    faults_of_each (λ number kind. fault_if (not (nat_lt (total_of (samples_of pprof number)) total_bound)) (TooLarge number)) pprof.sample_types
 
 unfoldable pub weight_faults : Base → Pprof → List PprofFault
 weight_faults base pprof =
-    fault_if (nat_lt 4096 (length pprof.sample_types) || nat_lt 268435456 (weight_of (profiles_of base pprof))) Weight
+    fault_if (nat_lt most_profiles (length pprof.sample_types) || nat_lt most_weight (weight_of (profiles_of base pprof))) Weight
 
 -- the types' places
 unfoldable pub type_faults : List (List ℕ) → Pprof → List PprofFault

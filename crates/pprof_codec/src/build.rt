@@ -2,6 +2,7 @@
 ghost use Rattle.std.specs.Prelude.{◌≡◌, ◌+◌, ◌<◌, ◌≤◌, length, map, sum_by, IfOk};
 ghost use Rattle.profile_model.specs.CleanedTexts.{cleaned};
 ghost use Rattle.profile_model.specs.Kinds.{IsPart};
+ghost use Rattle.profile_model.specs.Limits.{most_profiles, most_weight};
 ghost use Rattle.profile_model.specs.ReadKinds.{parts_in};
 ghost use Rattle.profile_model.specs.Sums.{sums_of};
 ghost use Rattle.profile_model.specs.Weights.{profile_weight};
@@ -17,11 +18,8 @@ use crate::texts::text_at;
 use crate::{Base, PprofFault};
 use faults::Refused;
 use pprof_message::ValueType;
-use profile_model::{MAX_PROFILES, Name, Profile, ProfileType, StackSums};
+use profile_model::{MAX_PROFILES, MAX_WEIGHT, Name, Profile, ProfileType, StackSums};
 use std::alloc::{AllocError, Global};
-
-/// The most that the profiles of one pprof may weigh.
-const MAX_WEIGHT: u64 = 268_435_456;
 
 // One profile for each sample type, in order.
 pub(crate) fn build_profiles(
@@ -31,8 +29,8 @@ pub(crate) fn build_profiles(
 ) -> Result<Vec<Profile>, Refused<PprofFault>>
     ensures built { Judges result (weight_faults base.now judged.now.message)
         (λ profiles. map held_of profiles.items ≡ profiles_of base.now judged.now.message) }
-    ensures few { IfOk result (λ profiles. length profiles.items ≤ 4096) }
-    ensures light { IfOk result (λ profiles. sum_by profile_weight profiles.items ≤ 268435456) }
+    ensures few { IfOk result (λ profiles. length profiles.items ≤ most_profiles) }
+    ensures light { IfOk result (λ profiles. sum_by profile_weight profiles.items ≤ most_weight) }
 {
     let kinds = judged.message.sample_types();
     if kinds.len() > MAX_PROFILES {
@@ -61,7 +59,7 @@ fn build_profile(
     room: &mut u64,
 ) -> Result<Profile, Refused<PprofFault>>
     requires number { number < length judged.now.message.sample_types }
-    requires room { room.old ≤ 268435456 }
+    requires room { room.old ≤ most_weight }
     requires values { values ≡ sums_of (samples_of judged.now.message number) }
     ensures { let profile = profile_of base.now judged.now.message number kind.now in
         TakesRoom result (room.old + stacks_weight values) room.new (held_weight profile) (λ built. held_of built ≡ profile) }

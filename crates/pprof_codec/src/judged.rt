@@ -1,6 +1,7 @@
 // A message without a fault, and what its profiles are made of.
-ghost use Rattle.std.specs.Prelude.{◌≡◌, ℕ, ◌^◌, ◌<◌, length};
+ghost use Rattle.std.specs.Prelude.{◌≡◌, ℕ, ◌<◌, length};
 ghost use Rattle.std.specs.List.{All};
+ghost use Rattle.profile_model.specs.Limits.{total_bound};
 ghost use Rattle.profile_model.specs.Stacks.{IsStack};
 ghost use Rattle.profile_model.specs.Sums.{total_of};
 ghost use Rattle.pprof_codec.specs.Frames.{stack_of, unknown_frame};
@@ -31,7 +32,7 @@ pub(crate) struct Judged<'a> {
     ghost named: { unknown ≡ unknown_frame },
     ghost located: { AreLocations message locations.ids locations.frames.items },
     ghost stacks: { All (λ sample. IsStack (stack_of message sample)) message.samples },
-    ghost totals: { (number : ℕ) → number < length message.sample_types → total_of (samples_of message number) < 2 ^ 63 },
+    ghost totals: { (number : ℕ) → number < length message.sample_types → total_of (samples_of message number) < total_bound },
 }
 
 // Judges all but the weight, in the order of the checks.

@@ -1,6 +1,7 @@
 // A pprof to profiles.
 ghost use Rattle.std.specs.Prelude.{◌≤◌, length, sum_by, IfOk};
 ghost use Rattle.faults.specs.Answers.{IfAnswered};
+ghost use Rattle.profile_model.specs.Limits.{most_profiles, most_weight};
 ghost use Rattle.profile_model.specs.Weights.{profile_weight};
 ghost use Rattle.pprof_codec.specs.Read.{IsReadPprof};
 
@@ -23,8 +24,8 @@ pub fn read_pprof(
     base: &Base,
 ) -> Result<Vec<Profile>, Refused<PprofFault>>
     ensures read { IfAnswered (IsReadPprof base.now bytes.now) result }
-    ensures few { IfOk result (λ profiles. length profiles.items ≤ 4096) }
-    ensures light { IfOk result (λ profiles. sum_by profile_weight profiles.items ≤ 268435456) }
+    ensures few { IfOk result (λ profiles. length profiles.items ≤ most_profiles) }
+    ensures light { IfOk result (λ profiles. sum_by profile_weight profiles.items ≤ most_weight) }
 {
     if bytes.starts_with(&GZIP) {
         return Err(Refused::Fault(PprofFault::Compressed));

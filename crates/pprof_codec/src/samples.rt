@@ -1,6 +1,7 @@
 // The samples of a profile, judged.
-ghost use Rattle.std.specs.Prelude.{◌≡◌, length, min, is_some, position, IfSome};
+ghost use Rattle.std.specs.Prelude.{◌≡◌, ◌+◌, length, min, is_some, position, IfSome};
 ghost use Rattle.std.specs.List.{flat_map, list_all};
+ghost use Rattle.profile_model.specs.Limits.{most_frames};
 ghost use Rattle.pprof_message.specs.Gathered.{sample_in};
 ghost use Rattle.pprof_message.specs.Pprof.{Pprof};
 ghost use Rattle.pprof_codec.specs.Frames.{frames_at};
@@ -68,12 +69,12 @@ fn has_all_texts(names: &[Name], labels: &[Label]) -> bool
     labels.iter().all(|label| has_label_texts(names, label))
 }
 
-// How many frames these locations have together, and 1,025 for more than a stack may have.
+// How many frames these locations have together, and `MAX_FRAMES + 1` for more than a stack may have.
 // None where an id is no location's.
 fn depth_of(locations: &Locations, ids: &[u64]) -> Option<usize>
     ensures known { is_some result ≡ list_all (λ id. is_some (found_in locations.now.ids locations.now.frames.items id)) ids.now }
     ensures depth { (pprof : Pprof) → AreLocations pprof locations.now.ids locations.now.frames.items →
-        IfSome result (λ depth. depth ≡ min (length (flat_map (frames_at pprof) ids.now)) 1025) }
+        IfSome result (λ depth. depth ≡ min (length (flat_map (frames_at pprof) ids.now)) (most_frames + 1)) }
 {
     let mut depth = 0;
     for id in ids {

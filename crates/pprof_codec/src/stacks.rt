@@ -1,5 +1,5 @@
 // The stack of a sample.
-ghost use Rattle.std.specs.Prelude.{◌≡◌, ◌++◌, IfOk, OnOk};
+ghost use Rattle.std.specs.Prelude.{◌≡◌, ◌++◌, reverse, IfOk, OnOk};
 ghost use Rattle.profile_model.specs.Stacks.{IsStack};
 ghost use Rattle.pprof_message.specs.Gathered.{sample_in};
 ghost use Rattle.pprof_codec.specs.Frames.{frames_at, stack_of};
@@ -27,11 +27,18 @@ pub(crate) fn build_stack(
     for id in sample.location_ids {
         push_frames(judged, &mut frames, *id)?;
     }
-    frames.reverse();
-    match Stack::from_frames(ArcSlice::from_vec(frames)?) {
+    match Stack::from_frames(ArcSlice::from_vec(turned_round(frames))?) {
         Ok(stack) => Ok(stack),
         Err(_) => unreachable!(),
     }
+}
+
+// A pprof tells the leaf first, and a stack the root.
+fn turned_round(mut frames: Vec<Name>) -> Vec<Name>
+    ensures { result.items ≡ reverse frames.items }
+{
+    frames.reverse();
+    frames
 }
 
 // The frames of the location with this id, the innermost first.

@@ -1,6 +1,7 @@
 // The sums of each sample type's values.
-ghost use Rattle.std.specs.Prelude.{◌≡◌, ℕ, ◌+◌, ◌^◌, ◌<◌, [], length, get_or, IfOk};
+ghost use Rattle.std.specs.Prelude.{◌≡◌, ℕ, ◌+◌, ◌<◌, [], length, get_or, IfOk};
 ghost use Rattle.std.specs.List.{All};
+ghost use Rattle.profile_model.specs.Limits.{total_bound};
 ghost use Rattle.profile_model.specs.Sums.{total_of, with_added};
 ghost use Rattle.profile_model.specs.Weights.{stack_weight};
 ghost use Rattle.pprof_codec.specs.Profiles.{stacks_weight};
@@ -59,7 +60,7 @@ fn add_run(
     requires some { 0 < length run.now }
     requires known { All (λ at. at < length judged.now.message.samples) run.now }
     requires totals { (number : ℕ) → number < length sums.old →
-        total_of (get_or sums.old number []) + value_over judged.now.message number run.now < 2 ^ 63 }
+        total_of (get_or sums.old number []) + value_over judged.now.message number run.now < total_bound }
     ensures { let after = run_added judged.now.message run.now (first_stack judged.now.message run.now) sums.old in
         TakesRoom result (room.old + sums_weight sums.old) room.new (sums_weight after) (λ _. sums.new ≡ after) }
 {
@@ -81,7 +82,7 @@ fn add_to_each(
     requires some { 0 < length sums.old }
     requires known { All (λ at. at < length message.now.samples) run.now }
     requires totals { (number : ℕ) → number < length sums.old →
-        total_of (get_or sums.old number []) + value_over message.now number run.now < 2 ^ 63 }
+        total_of (get_or sums.old number []) + value_over message.now number run.now < total_bound }
     ensures { let after = run_added message.now run.now stack sums.old in
         TakesRoom result (room.old + sums_weight sums.old) room.new (sums_weight after) (λ _. sums.new ≡ after) }
 {
@@ -98,7 +99,7 @@ fn add_to_each(
 // These samples' values of the sample type with this number, together.
 fn value_of_run(message: &PprofMessage, run: &[usize], number: usize) -> u64
     requires known { All (λ at. at < length message.now.samples) run.now }
-    requires bound { value_over message.now number run.now < 2 ^ 63 }
+    requires bound { value_over message.now number run.now < total_bound }
     ensures { result ≡ value_over message.now number run.now }
 {
     let mut value = 0;
@@ -116,7 +117,7 @@ fn add_copy(
     value: u64,
     room: &mut u64,
 ) -> Result<(), Refused<PprofFault>>
-    requires total { total_of sums.old + value < 2 ^ 63 }
+    requires total { total_of sums.old + value < total_bound }
     requires weight { weight ≡ stack_weight stack.now }
     ensures { let after = with_added sums.old stack.now value in
         TakesRoom result (room.old + stacks_weight sums.old) room.new (stacks_weight after) (λ _. sums.new ≡ after) }
@@ -135,7 +136,7 @@ fn add(
     value: u64,
     room: &mut u64,
 ) -> Result<(), Refused<PprofFault>>
-    requires total { total_of sums.old + value < 2 ^ 63 }
+    requires total { total_of sums.old + value < total_bound }
     requires weight { weight ≡ stack_weight stack }
     ensures { let after = with_added sums.old stack value in
         TakesRoom result (room.old + stacks_weight sums.old) room.new (stacks_weight after) (λ _. sums.new ≡ after) }

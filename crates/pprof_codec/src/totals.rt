@@ -1,5 +1,6 @@
 // The values of a profile, and their sums.
-ghost use Rattle.std.specs.Prelude.{◌≡◌, ◌^◌, not, nat_lt, sum_by};
+ghost use Rattle.std.specs.Prelude.{◌≡◌, not, nat_lt, sum_by};
+ghost use Rattle.profile_model.specs.Limits.{total_bound};
 ghost use Rattle.pprof_message.specs.Gathered.{sample_in};
 ghost use Rattle.pprof_codec.specs.Profiles.{value_of};
 ghost use Rattle.pprof_codec.specs.Checks.{first_of, total_faults};
@@ -23,7 +24,7 @@ pub(crate) fn first_total_fault(message: &PprofMessage) -> Option<PprofFault>
 
 // Whether all values of the sample type with this number come to more than stacks may.
 fn is_too_large(message: &PprofMessage, number: usize) -> bool
-    ensures { result ≡ not (nat_lt (sum_by (value_of number) message.now.samples) (2 ^ 63)) }
+    ensures { result ≡ not (nat_lt (sum_by (value_of number) message.now.samples) total_bound) }
 {
     let mut total = 0;
     for at in 0..message.samples() {

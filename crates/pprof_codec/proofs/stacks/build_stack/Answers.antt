@@ -14,7 +14,7 @@ unreachable-requires c =
     let message = c.args.judged.now.message in
     let ids = c.args.sample.now.location_ids.now in
     let whole : arc_slice_items c.in_ok-from_vec.field-0 ≡ stack_of message (sample_in c.args.sample.now) =
-    c.in_ok-from_vec.ensures ∙ c.reverse.ensures.items
+    c.in_ok-from_vec.ensures ∙ c.turned_round.ensures
     ∙ ap reverse (c.loop-id.invariant ∙ ap (λ some. leaf_first ids ++ flat_map (frames_at message) some) (take_all c.loop-id.id-index ids (omega arith)))
     ∙ turned-round message (sample_in c.args.sample.now) in
     no-stack_fault (arc_slice_items c.in_ok-from_vec.field-0) c.in-Err.field-0 (subst IsStack (sym whole) c.requires) c.in-Err.ensures.read
@@ -24,7 +24,7 @@ returns c =
     let message = c.args.judged.now.message in
     let ids = c.args.sample.now.location_ids.now in
     let whole : arc_slice_items c.in_ok-from_vec.field-0 ≡ stack_of message (sample_in c.args.sample.now) =
-    c.in_ok-from_vec.ensures ∙ c.reverse.ensures.items
+    c.in_ok-from_vec.ensures ∙ c.turned_round.ensures
     ∙ ap reverse (c.loop-id.invariant ∙ ap (λ some. leaf_first ids ++ flat_map (frames_at message) some) (take_all c.loop-id.id-index ids (omega arith)))
     ∙ turned-round message (sample_in c.args.sample.now) in
     c.in-Ok.ensures.read.1 ∙ whole

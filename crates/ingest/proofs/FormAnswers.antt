@@ -1,5 +1,5 @@
 -- Parameters say one form, or have one first fault.
-use Rattle.std.proofs.Common.{◌≡◌, ◌≢◌, ◌==◌, ⊎_elim, ℕ, not, List, [], ◌∷◌, ◌++◌, Option, Some, None, Ok, Err, refl, sym, ap, ◌∙◌, subst, codes}
+use Rattle.std.proofs.Common.{◌≡◌, ◌==◌, ⊎_elim, ℕ, not, List, [], ◌∷◌, ◌++◌, Option, Some, None, Ok, Err, refl, sym, ap, ◌∙◌, subst, codes}
 use Rattle.std.specs.Prelude.{IsTrue, MatchOption}
 use Rattle.std.specs.List.{list_all}
 use Rattle.std.specs.Cmp.{first_so, second_so}
@@ -12,20 +12,19 @@ use Rattle.profile_model.specs.Breaks.{BreaksAt}
 use Rattle.profile_model.specs.Kinds.{IsPart}
 use Rattle.profile_model.specs.LabelSets.{AreProfileLabels, Label}
 use Rattle.profile_model.specs.ReadLabels.{IsReadLabels}
+use Rattle.profile_model.specs.Series.{kind_name, own_labels}
 use Rattle.profile_model.specs.declared.labels.LabelFault.{LabelFault}
-use Rattle.profile_model.specs.declared.labels.LabelFault.TheVariants.{Memory as no_memory}
 use Rattle.profile_model.proofs.BreakLemmas.{breaks_once}
+use Rattle.profile_model.proofs.ReadLabelLemmas.{fault_once, read_not_fault, read_once}
 use Rattle.query_parameters.specs.Parameters.{value_of}
 use Rattle.query_parameters.specs.SeriesNames.{IsName, IsPair, IsSeriesName, pairs_text}
 use Rattle.query_parameters.specs.SeriesScan.{split_pairs}
 use Rattle.query_parameters.specs.Times.{time_of}
 use Rattle.query_parameters.proofs.SplitNameLemmas.{pairs_split}
 use Rattle.ingest.specs.Forms.{HasLabels, HasTime, IsForm, IsFormFault, IsLabelled, IsNameFault, IsNoTime, IsSeries, Parameters, format_of}
-use Rattle.ingest.specs.Series.{kind_name, own_labels}
 use Rattle.ingest.specs.declared.form.Form.{Form}
 use Rattle.ingest.specs.declared.fault.IngestFault.{IngestFault}
 use Rattle.ingest.specs.declared.fault.IngestFault.TheVariants as told
-use Rattle.ingest.proofs.LabelAnswers.{fault_once, read_not_fault, read_once}
 use mathlib.Core.HLevel.{is_prop→PathP}
 
 some_once : {X : Type 0} (o : Option X) (x y : X) → o ≡ Some x → o ≡ Some y → x ≡ y
@@ -99,7 +98,7 @@ time_not_wrong (Some text) moment ms h wrong = not_both (time_of text moment) ms
 
 -- the labels' first fault
 abbrev IsLabelFault : Parameters → LabelFault → Type 0
-IsLabelFault parameters wrong = (wrong ≢ no_memory) × ((pairs : List Label) × IsSeries parameters pairs × IsReadLabels pairs (Err wrong))
+IsLabelFault parameters wrong = (pairs : List Label) × IsSeries parameters pairs × IsReadLabels pairs (Err wrong)
 
 module _ (parameters : Parameters) where
   series_once : (pairs others : List Label) → IsSeries parameters pairs → IsSeries parameters others → pairs ≡ others
@@ -123,11 +122,11 @@ module _ (parameters : Parameters) where
 
   label_not_labelled : (wrong : LabelFault) → IsLabelFault parameters wrong → HasLabels parameters → ⊥
   label_not_labelled wrong h k =
-      read_not_fault h.1.0 k.0 wrong h.0 (subst (λ pairs. IsReadLabels pairs (Ok k.0)) (series_once k.1.pairs h.1.0 k.1.series h.1.1) k.1.made) h.1.2
+      read_not_fault h.0 k.0 wrong (subst (λ pairs. IsReadLabels pairs (Ok k.0)) (series_once k.1.pairs h.0 k.1.series h.1) k.1.made) h.2
 
   label_fault_once : (wrong other : LabelFault) → IsLabelFault parameters wrong → IsLabelFault parameters other → wrong ≡ other
   label_fault_once wrong other h k =
-      fault_once k.1.0 wrong other h.0 k.0 (subst (λ pairs. IsReadLabels pairs (Err wrong)) (series_once h.1.0 k.1.0 h.1.1 k.1.1) h.1.2) k.1.2
+      fault_once k.0 wrong other (subst (λ pairs. IsReadLabels pairs (Err wrong)) (series_once h.0 k.0 h.1 k.1) h.2) k.2
 
   -- ---- the form, or the first fault
 
@@ -156,39 +155,32 @@ module _ (parameters : Parameters) where
     time_not_absent : HasTime parameters moment → IsNoTime parameters moment → ⊥
     time_not_absent h wrong = time_not_wrong (value_of parameters (codes "from")) moment h.1.0 h.1.1 wrong
 
-    pub form_not_fault : (form : Form) (fault : IngestFault) → fault ≢ told.Memory → IsForm parameters moment form → IsFormFault parameters moment fault → ⊥
-    form_not_fault form (told.Name at) answered h k = name_not_labelled at k (has_labels form h)
-    form_not_fault form (told.Label wrong) answered h k = label_not_labelled wrong k (has_labels form h)
-    form_not_fault form told.From answered h k = time_not_absent (has_labels form h, (form.time_ms, h.time)) k.1
-    form_not_fault form told.Format answered h k = not_both (format_of (value_of parameters (codes "format"))) form.format k.1 h.format
-    form_not_fault form told.Memory answered h k = answered refl
-    form_not_fault form fault answered h k = k
+    pub form_not_fault : (form : Form) (fault : IngestFault) → IsForm parameters moment form → IsFormFault parameters moment fault → ⊥
+    form_not_fault form (told.Name at) h k = name_not_labelled at k (has_labels form h)
+    form_not_fault form (told.Label wrong) h k = label_not_labelled wrong k (has_labels form h)
+    form_not_fault form told.From h k = time_not_absent (has_labels form h, (form.time_ms, h.time)) k.1
+    form_not_fault form told.Format h k = not_both (format_of (value_of parameters (codes "format"))) form.format k.1 h.format
+    form_not_fault form fault h k = k
 
-    pub form_fault_once : (fault other : IngestFault) → fault ≢ told.Memory → other ≢ told.Memory
-        → IsFormFault parameters moment fault → IsFormFault parameters moment other → fault ≡ other
-    form_fault_once told.Memory other answered answered' h k = absurd (answered refl)
-    form_fault_once (told.Name at) (told.Name n) answered answered' h k = ap told.Name (name_fault_once (value_of parameters (codes "name")) at n h k)
-    form_fault_once (told.Name at) (told.Label wrong) answered answered' h k = absurd (name_not_series at k.1.0 h k.1.1)
-    form_fault_once (told.Name at) told.From answered answered' h k = absurd (name_not_labelled at h k.0)
-    form_fault_once (told.Name at) told.Format answered answered' h k = absurd (name_not_labelled at h k.0.0)
-    form_fault_once (told.Name at) told.Memory answered answered' h k = absurd (answered' refl)
-    form_fault_once (told.Name at) other answered answered' h k = absurd k
-    form_fault_once (told.Label wrong) (told.Name n) answered answered' h k = absurd (name_not_series n h.1.0 k h.1.1)
-    form_fault_once (told.Label wrong) (told.Label again) answered answered' h k = ap told.Label (label_fault_once wrong again h k)
-    form_fault_once (told.Label wrong) told.From answered answered' h k = absurd (label_not_labelled wrong h k.0)
-    form_fault_once (told.Label wrong) told.Format answered answered' h k = absurd (label_not_labelled wrong h k.0.0)
-    form_fault_once (told.Label wrong) told.Memory answered answered' h k = absurd (answered' refl)
-    form_fault_once (told.Label wrong) other answered answered' h k = absurd k
-    form_fault_once told.From (told.Name n) answered answered' h k = absurd (name_not_labelled n k h.0)
-    form_fault_once told.From (told.Label wrong) answered answered' h k = absurd (label_not_labelled wrong k h.0)
-    form_fault_once told.From told.From answered answered' h k = refl
-    form_fault_once told.From told.Format answered answered' h k = absurd (time_not_absent k.0 h.1)
-    form_fault_once told.From told.Memory answered answered' h k = absurd (answered' refl)
-    form_fault_once told.From other answered answered' h k = absurd k
-    form_fault_once told.Format (told.Name n) answered answered' h k = absurd (name_not_labelled n k h.0.0)
-    form_fault_once told.Format (told.Label wrong) answered answered' h k = absurd (label_not_labelled wrong k h.0.0)
-    form_fault_once told.Format told.From answered answered' h k = absurd (time_not_absent h.0 k.1)
-    form_fault_once told.Format told.Format answered answered' h k = refl
-    form_fault_once told.Format told.Memory answered answered' h k = absurd (answered' refl)
-    form_fault_once told.Format other answered answered' h k = absurd k
-    form_fault_once fault other answered answered' h k = absurd h
+    pub form_fault_once : (fault other : IngestFault) → IsFormFault parameters moment fault → IsFormFault parameters moment other → fault ≡ other
+    form_fault_once (told.Name at) (told.Name n) h k = ap told.Name (name_fault_once (value_of parameters (codes "name")) at n h k)
+    form_fault_once (told.Name at) (told.Label wrong) h k = absurd (name_not_series at k.0 h k.1)
+    form_fault_once (told.Name at) told.From h k = absurd (name_not_labelled at h k.0)
+    form_fault_once (told.Name at) told.Format h k = absurd (name_not_labelled at h k.0.0)
+    form_fault_once (told.Name at) other h k = absurd k
+    form_fault_once (told.Label wrong) (told.Name n) h k = absurd (name_not_series n h.0 k h.1)
+    form_fault_once (told.Label wrong) (told.Label again) h k = ap told.Label (label_fault_once wrong again h k)
+    form_fault_once (told.Label wrong) told.From h k = absurd (label_not_labelled wrong h k.0)
+    form_fault_once (told.Label wrong) told.Format h k = absurd (label_not_labelled wrong h k.0.0)
+    form_fault_once (told.Label wrong) other h k = absurd k
+    form_fault_once told.From (told.Name n) h k = absurd (name_not_labelled n k h.0)
+    form_fault_once told.From (told.Label wrong) h k = absurd (label_not_labelled wrong k h.0)
+    form_fault_once told.From told.From h k = refl
+    form_fault_once told.From told.Format h k = absurd (time_not_absent k.0 h.1)
+    form_fault_once told.From other h k = absurd k
+    form_fault_once told.Format (told.Name n) h k = absurd (name_not_labelled n k h.0.0)
+    form_fault_once told.Format (told.Label wrong) h k = absurd (label_not_labelled wrong k h.0.0)
+    form_fault_once told.Format told.From h k = absurd (time_not_absent h.0 k.1)
+    form_fault_once told.Format told.Format h k = refl
+    form_fault_once told.Format other h k = absurd k
+    form_fault_once fault other h k = absurd h

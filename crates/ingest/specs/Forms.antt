@@ -1,16 +1,15 @@
 -- What the parameters of a request to ingest say (Pyroscope's server HTTP API, "Ingestion"). The defaults, the bounds
 -- and the order of the faults are this project's own.
-use Rattle.std.specs.Prelude.{◌≡◌, ◌≢◌, ℕ, Bool, List, ◌∷◌, Option, Some, None, codes, nat_eq, unwrap_or, Ok, Err, MatchOption, if◌then◌else◌}
+use Rattle.std.specs.Prelude.{◌≡◌, ℕ, Bool, List, ◌∷◌, Option, Some, None, codes, nat_eq, unwrap_or, Ok, Err, MatchOption, if◌then◌else◌}
 use Rattle.std.specs.Cmp.Lexicographic.{pointwise}
 use Rattle.profile_model.specs.Breaks.{BreaksAt}
 use Rattle.profile_model.specs.CleanedTexts.{cleaned}
 use Rattle.profile_model.specs.LabelSets.{Label}
 use Rattle.profile_model.specs.ReadLabels.{IsReadLabels}
-use Rattle.profile_model.specs.declared.labels.LabelFault.TheVariants.{Memory as no_memory}
+use Rattle.profile_model.specs.Series.{kind_name, own_labels}
 use Rattle.query_parameters.specs.Parameters.{value_of}
 use Rattle.query_parameters.specs.Times.{time_of}
 use Rattle.query_parameters.specs.SeriesNames.{IsName, IsSeriesName}
-use Rattle.ingest.specs.Series.{kind_name, own_labels}
 use Rattle.ingest.specs.declared.form.Form.{Form}
 use Rattle.ingest.specs.declared.form.Format.{Format}
 use Rattle.ingest.specs.declared.form.Format.TheVariants.{Folded, Lines, Pprof}
@@ -88,9 +87,7 @@ HasTime parameters moment = HasLabels parameters × ((ms : ℕ) × IsFrom parame
 -- the first fault: each where those before it don't hold
 abbrev pub IsFormFault : Parameters → ℕ → IngestFault → Type 0
 IsFormFault parameters moment (fault.Name at) = IsNameFault parameters at
-IsFormFault parameters moment (fault.Label wrong) =
-    (wrong ≢ no_memory) × ((pairs : List Label) × IsSeries parameters pairs × IsReadLabels pairs (Err wrong))
+IsFormFault parameters moment (fault.Label wrong) = (pairs : List Label) × IsSeries parameters pairs × IsReadLabels pairs (Err wrong)
 IsFormFault parameters moment fault.From = HasLabels parameters × IsNoTime parameters moment
 IsFormFault parameters moment fault.Format = HasTime parameters moment × (format_of (value_of parameters (codes "format")) ≡ None)
-IsFormFault parameters moment fault.Memory = Unit {0}
 IsFormFault parameters moment wrong = ⊥

@@ -1,14 +1,13 @@
 -- What a request to ingest says: the profiles of its body, or the first fault.
-use Rattle.std.specs.Prelude.{◌≡◌, ◌≢◌, ◌⊎◌, ℕ, ◌+◌, ◌<◌, ◌≤◌, List, [], ◌∷◌, Result, Ok, Err, codes, sum_by}
+use Rattle.std.specs.Prelude.{◌≡◌, ◌⊎◌, ℕ, ◌<◌, ◌≤◌, List, [], ◌∷◌, Result, Ok, Err, codes}
 use Rattle.folded_reader.specs.Folded.{IsReadFolded, IsReadLines}
 use Rattle.folded_reader.specs.declared.fault.FoldedFault.{FoldedFault}
-use Rattle.folded_reader.specs.declared.fault.FoldedFault.TheVariants.{Memory as no_memory}
 use Rattle.pprof_codec.specs.Read.{AreProfilesOf, IsFirstFault}
 use Rattle.pprof_codec.specs.declared.base.Base.{Base}
-use Rattle.pprof_codec.specs.declared.fault.PprofFault.TheVariants.{Memory as no_room}
+use Rattle.profile_model.specs.Limits.{most_weight}
 use Rattle.profile_model.specs.Sums.{Sample}
 use Rattle.profile_model.specs.ReadKinds.{parts_in}
-use Rattle.profile_model.specs.Weights.{profile_weight}
+use Rattle.profile_model.specs.Weights.{weight_in_push}
 use Rattle.profile_model.specs.declared.profile.Profile.{Profile}
 use Rattle.ingest.specs.Forms.{Parameters, IsForm, IsFormFault}
 use Rattle.ingest.specs.declared.form.Form.{Form}
@@ -48,24 +47,18 @@ AreProfiles form body profiles = AreProfilesAs form.format form body profiles
 
 -- the first fault of a body
 abbrev pub IsBodyFault : Form → List ℕ → IngestFault → Type 0
-IsBodyFault form body (fault.Folded wrong) = (wrong ≢ no_memory) × IsReadStacks form.format body (Err wrong)
-IsBodyFault form body (fault.Pprof wrong) =
-    (form.format ≡ Pprof) × (wrong ≢ no_room) × ((base : Base) × IsBaseOf form base × IsFirstFault base body wrong)
-IsBodyFault form body fault.Memory = Unit {0}
+IsBodyFault form body (fault.Folded wrong) = IsReadStacks form.format body (Err wrong)
+IsBodyFault form body (fault.Pprof wrong) = (form.format ≡ Pprof) × (base : Base) × IsBaseOf form base × IsFirstFault base body wrong
 IsBodyFault form body wrong = ⊥
-
--- what a push of these profiles weighs
-abbrev pub weight_of : List Profile → ℕ
-weight_of profiles = 256 + sum_by profile_weight profiles
 
 -- parameters and body say these profiles, and the push isn't too heavy
 abbrev pub SaysProfiles : Parameters → List ℕ → ℕ → List Profile → Type 0
 SaysProfiles parameters body moment profiles =
-    (form : Form) × IsForm parameters moment form × AreProfiles form body profiles × (weight_of profiles ≤ 268435456)
+    (form : Form) × IsForm parameters moment form × AreProfiles form body profiles × (weight_in_push profiles ≤ most_weight)
 
 -- their first fault: the parameters' come before the body's, and the weight comes last
 abbrev pub IsIngestFault : Parameters → List ℕ → ℕ → IngestFault → Type 0
 IsIngestFault parameters body moment fault.Weight =
-    (form : Form) × (profiles : List Profile) × IsForm parameters moment form × AreProfiles form body profiles × (268435456 < weight_of profiles)
+    (form : Form) × (profiles : List Profile) × IsForm parameters moment form × AreProfiles form body profiles × (most_weight < weight_in_push profiles)
 IsIngestFault parameters body moment wrong =
     IsFormFault parameters moment wrong ⊎ ((form : Form) × IsForm parameters moment form × IsBodyFault form body wrong)

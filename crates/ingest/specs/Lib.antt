@@ -1,4 +1,3 @@
-pub mod Series
 pub mod Forms
 pub mod FormReading
 pub mod Ingests

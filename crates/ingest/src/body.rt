@@ -1,5 +1,6 @@
 // The profiles of a body.
-ghost use Rattle.std.specs.Prelude.{◌≡◌, ◌≢◌, [], ◌∷◌, Err, IfOk, MatchResult, Ok};
+ghost use Rattle.std.specs.Prelude.{◌≡◌, [], ◌∷◌, Err, IfOk, MatchResult, Ok};
+ghost use Rattle.faults.specs.Answers.{IfFault};
 ghost use Rattle.profile_model.specs.Sums.{Sample};
 ghost use Rattle.profile_model.specs.declared.profile.Profile.{Profile};
 ghost use Rattle.ingest.specs.Ingests.{AreProfiles, IsBaseOf, IsBodyFault, IsReadStacks, IsStackProfile};
@@ -7,47 +8,32 @@ ghost use Rattle.pprof_codec.specs.Read.{AreProfilesOf, IsFirstFault};
 
 use crate::IngestFault;
 use crate::form::{Form, Format};
-use folded_reader::{FoldedFault, read_folded, read_lines};
-use pprof_codec::{Base, PprofFault, read_pprof};
+use faults::Refused;
+use folded_reader::{read_folded, read_lines};
+use pprof_codec::{Base, read_pprof};
 use profile_model::{Name, Profile, ProfileType, Profiles, StackSums};
 use std::alloc::{AllocError, Global};
 
-pub(crate) fn read_body(alloc: Global, form: Form, body: &[u8]) -> Result<Profiles, IngestFault>
-    ensures { MatchResult result (AreProfiles form body.now) (IsBodyFault form body.now) }
+pub(crate) fn read_body(
+    alloc: Global,
+    form: Form,
+    body: &[u8],
+) -> Result<Profiles, Refused<IngestFault>>
+    ensures { MatchResult result (AreProfiles form body.now) (IfFault (IsBodyFault form body.now)) }
 {
     match form.format {
         Format::Folded => match read_folded(alloc, body) {
             Ok(values) => Ok(stack_profile(alloc, form, values)?),
-            Err(fault) => Err(folded_fault(fault)),
+            Err(refused) => Err(refused.map(IngestFault::Folded)),
         },
         Format::Lines => match read_lines(alloc, body) {
             Ok(values) => Ok(stack_profile(alloc, form, values)?),
-            Err(fault) => Err(folded_fault(fault)),
+            Err(refused) => Err(refused.map(IngestFault::Folded)),
         },
         Format::Pprof => match read_pprof(alloc, body, &base_of(form)) {
             Ok(profiles) => Ok(Profiles::from_vec(profiles)),
-            Err(fault) => Err(pprof_fault(fault)),
+            Err(refused) => Err(refused.map(IngestFault::Pprof)),
         },
-    }
-}
-
-fn folded_fault(fault: FoldedFault) -> IngestFault
-    ensures memory { fault ≡ FoldedFault.Memory → result ≡ IngestFault.Memory }
-    ensures other { fault ≢ FoldedFault.Memory → result ≡ IngestFault.Folded fault }
-{
-    match fault {
-        FoldedFault::Memory => IngestFault::Memory,
-        fault => IngestFault::Folded(fault),
-    }
-}
-
-fn pprof_fault(fault: PprofFault) -> IngestFault
-    ensures memory { fault ≡ PprofFault.Memory → result ≡ IngestFault.Memory }
-    ensures other { fault ≢ PprofFault.Memory → result ≡ IngestFault.Pprof fault }
-{
-    match fault {
-        PprofFault::Memory => IngestFault::Memory,
-        fault => IngestFault::Pprof(fault),
     }
 }
 

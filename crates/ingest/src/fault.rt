@@ -1,15 +1,13 @@
 // Why a request to ingest says no push.
-ghost use Rattle.std.specs.Prelude.{◌≡◌, [], ◌∷◌, option_map};
-ghost use Rattle.std.specs.Option.{option_to_list};
-ghost use Rattle.folded_reader.specs.Faults as folded;
-ghost use Rattle.ingest.specs.declared.fault.IngestFault.TheVariants.{Memory};
-ghost use Rattle.ingest.specs.Faults.{code_of, label_code, label_place, place_of};
+ghost use Rattle.std.specs.Prelude.{◌≡◌, ◌≤◌, length};
+ghost use Rattle.faults.specs.Places.{numbers_of};
+ghost use Rattle.faults.specs.declared.refused.Refused.TheVariants.{Fault};
+ghost use Rattle.ingest.specs.Faults.{code_of, place_of};
 
-use arrayvec::ArrayVec;
+use faults::{Place, Refused};
 use folded_reader::FoldedFault;
 use pprof_codec::PprofFault;
 use profile_model::LabelFault;
-use std::alloc::{AllocError, AllocFailed};
 use std::error::Error;
 use std::fmt;
 
@@ -27,94 +25,38 @@ pub enum IngestFault {
     Pprof(PprofFault),
     /// The push weighs more than a push may.
     Weight,
-    Memory,
 }
 
 impl IngestFault {
-    /// The code that stands for the fault in a reply. Want of memory has none.
-    pub fn code(&self) -> Option<&'static str>
-        ensures { option_map (λ code. code.now) result ≡ code_of self.now }
+    /// The code that stands for the fault in a reply.
+    pub fn code(&self) -> &'static str
+        ensures { result.now ≡ code_of self.now }
     {
         match self {
-            IngestFault::Name(_) => Some("I1"),
-            IngestFault::Label(fault) => label_code(*fault),
-            IngestFault::From => Some("I2"),
-            IngestFault::Format => Some("I3"),
+            IngestFault::Name(_) => "I1",
+            IngestFault::Label(fault) => fault.code(),
+            IngestFault::From => "I2",
+            IngestFault::Format => "I3",
             IngestFault::Folded(fault) => fault.code(),
             IngestFault::Pprof(fault) => fault.code(),
-            IngestFault::Weight => Some("P14"),
-            IngestFault::Memory => None,
+            IngestFault::Weight => "P14",
         }
     }
 
     /// The numbers of what has the fault: none, one or two.
-    pub fn place(&self) -> ArrayVec<u64, 2>
-        ensures { result.items ≡ place_of self.now }
+    pub fn place(&self) -> Place
+        ensures place { numbers_of result ≡ place_of self.now }
+        ensures short { length (numbers_of result) ≤ 2 }
     {
         match self {
-            IngestFault::Name(at) => one_number(*at as u64),
-            IngestFault::Label(fault) => label_place(*fault),
-            IngestFault::Folded(fault) => folded_place(*fault),
+            IngestFault::Name(at) => Place::At(*at as u64),
+            IngestFault::Label(fault) => fault.place(),
+            IngestFault::From | IngestFault::Format => Place::Whole,
+            IngestFault::Folded(fault) => fault.place(),
             IngestFault::Pprof(fault) => fault.place(),
-            IngestFault::Weight => two_numbers(0, 0),
-            IngestFault::From | IngestFault::Format | IngestFault::Memory => no_number(),
+            IngestFault::Weight => Place::Pair(0, 0),
         }
     }
-}
-
-fn label_code(fault: LabelFault) -> Option<&'static str>
-    ensures { option_map (λ code. code.now) result ≡ label_code fault }
-{
-    match fault {
-        LabelFault::BadName(_) => Some("L1"),
-        LabelFault::BadValue(_) => Some("L2"),
-        LabelFault::Repeated(_) => Some("L3"),
-        LabelFault::TooMany => Some("L4"),
-        LabelFault::Memory => None,
-    }
-}
-
-fn label_place(fault: LabelFault) -> ArrayVec<u64, 2>
-    ensures { result.items ≡ label_place fault }
-{
-    match fault {
-        LabelFault::BadName(at) | LabelFault::BadValue(at) | LabelFault::Repeated(at) => {
-            one_number(at as u64)
-        }
-        LabelFault::TooMany | LabelFault::Memory => no_number(),
-    }
-}
-
-fn folded_place(fault: FoldedFault) -> ArrayVec<u64, 2>
-    ensures { result.items ≡ option_to_list (folded.place_of fault) }
-{
-    match fault.place() {
-        Some(number) => one_number(number),
-        None => no_number(),
-    }
-}
-
-fn no_number() -> ArrayVec<u64, 2>
-    ensures { result.items ≡ [] }
-{
-    ArrayVec::new()
-}
-
-fn one_number(number: u64) -> ArrayVec<u64, 2>
-    ensures { result.items ≡ number ∷ [] }
-{
-    let mut place = ArrayVec::new();
-    place.push(number);
-    place
-}
-
-fn two_numbers(first: u64, second: u64) -> ArrayVec<u64, 2>
-    ensures { result.items ≡ first ∷ second ∷ [] }
-{
-    let mut place = ArrayVec::new();
-    place.push(first);
-    place.push(second);
-    place
 }
 
 impl fmt::Display for IngestFault {
@@ -127,25 +69,16 @@ impl fmt::Display for IngestFault {
             IngestFault::Folded(fault) => write!(f, "{fault}"),
             IngestFault::Pprof(fault) => write!(f, "{fault}"),
             IngestFault::Weight => write!(f, "the push is too large"),
-            IngestFault::Memory => write!(f, "out of memory"),
         }
     }
 }
 
 impl Error for IngestFault {}
 
-impl From<AllocError> for IngestFault {
-    ghost from_gives = { λ _ fault. fault ≡ Memory };
+impl From<IngestFault> for Refused<IngestFault> {
+    ghost from_gives = { λ fault refused. refused ≡ Fault fault };
 
-    fn from(_error: AllocError) -> IngestFault {
-        IngestFault::Memory
-    }
-}
-
-impl<T: Drop> From<AllocFailed<T>> for IngestFault {
-    ghost from_gives = { λ _ fault. fault ≡ Memory };
-
-    fn from(_error: AllocFailed<T>) -> IngestFault {
-        IngestFault::Memory
+    fn from(fault: IngestFault) -> Refused<IngestFault> {
+        Refused::Fault(fault)
     }
 }

@@ -1,13 +1,12 @@
 // Laws of requests to ingest. Each function states one, and does nothing.
-ghost use Rattle.std.specs.Prelude.{ℕ, List, Result};
+ghost use Rattle.std.specs.Prelude.{◌≡◌, ℕ, List, Result};
 ghost use Rattle.profile_model.specs.declared.push.Push.{Push};
 ghost use Rattle.ingest.specs.Forms.{Parameters};
-ghost use Rattle.ingest.specs.Laws.{AreSameAnswers, IsAnswer};
+ghost use Rattle.ingest.specs.Laws.{IsAnswer};
 ghost use Rattle.ingest.specs.declared.fault.IngestFault.{IngestFault};
 
 /// Parameters and a body have one answer, whatever the body's format: the push, or one fault in one place.
-/// Want of memory alone may stand for it.
 pub fn one_answer()
     ensures { (tenant : List ℕ) (parameters : Parameters) (body : List ℕ) (moment : ℕ) (first second : Result Push IngestFault) →
-        IsAnswer tenant parameters body moment first → IsAnswer tenant parameters body moment second → AreSameAnswers first second }
+        IsAnswer tenant parameters body moment first → IsAnswer tenant parameters body moment second → first ≡ second }
 {}

@@ -10,11 +10,9 @@ mod form;
 mod laws;
 mod parameters;
 mod reader;
-mod series;
 #[cfg(test)]
 mod tests;
 
 pub use fault::IngestFault;
 pub use laws::one_answer;
-pub use reader::{MAX_WEIGHT, read_ingest};
-pub use series::{own_labels, type_name};
+pub use reader::read_ingest;

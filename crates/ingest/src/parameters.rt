@@ -1,5 +1,6 @@
 // What the parameters say.
 ghost use Rattle.std.specs.Prelude.{◌≡◌, ◌∷◌, None, Some, codes, map, IfOk, MatchOption, MatchResult, option_map};
+ghost use Rattle.faults.specs.Answers.{IfAnswered, IfFault};
 ghost use Rattle.profile_model.specs.Kinds.{IsPart};
 ghost use Rattle.profile_model.specs.LabelSets.{AreProfileLabels};
 ghost use Rattle.query_parameters.specs.Parameters.{pairs_of};
@@ -9,8 +10,8 @@ ghost use Rattle.ingest.specs.FormReading.{IsLabelsRead, IsSeriesFault};
 
 use crate::IngestFault;
 use crate::form::{Form, Format};
-use crate::series::{own_labels, type_name};
-use profile_model::{LabelFault, LabelSet, Name, SERVICE_LABEL};
+use faults::Refused;
+use profile_model::{LabelSet, Name, SERVICE_LABEL, own_labels, type_name};
 use query_parameters::{NameFault, Parameter, first_value, read_series_name, read_time};
 use std::alloc::{AllocError, Global};
 
@@ -19,16 +20,16 @@ pub(crate) fn read_form(
     alloc: Global,
     parameters: &[Parameter],
     moment_ms: u64,
-) -> Result<Form, IngestFault>
+) -> Result<Form, Refused<IngestFault>>
     ensures { MatchResult result
-        (IsForm (pairs_of parameters.now) moment_ms) (IsFormFault (pairs_of parameters.now) moment_ms) }
+        (IsForm (pairs_of parameters.now) moment_ms) (IfFault (IsFormFault (pairs_of parameters.now) moment_ms)) }
 {
     let labels = read_labels(alloc, parameters)?;
     let Some(time_ms) = time_of(first_value(parameters, "from"), moment_ms) else {
-        return Err(IngestFault::From);
+        return Err(Refused::Fault(IngestFault::From));
     };
     let Some(format) = format_of(first_value(parameters, "format")) else {
-        return Err(IngestFault::Format);
+        return Err(Refused::Fault(IngestFault::Format));
     };
     Ok(Form {
         name: type_name(alloc, &labels)?,
@@ -40,28 +41,30 @@ pub(crate) fn read_form(
 }
 
 // The service's name and the labels behind it.
-fn read_labels(alloc: Global, parameters: &[Parameter]) -> Result<LabelSet, IngestFault>
-    ensures read { IsLabelsRead (pairs_of parameters.now) result }
+fn read_labels(alloc: Global, parameters: &[Parameter]) -> Result<LabelSet, Refused<IngestFault>>
+    ensures read { IfAnswered (IsLabelsRead (pairs_of parameters.now)) result }
     ensures profile { IfOk result AreProfileLabels }
 {
     let pairs = read_pairs(alloc, parameters)?;
     match LabelSet::from_pairs(alloc, &pairs) {
         Ok(labels) => Ok(labels),
-        Err(LabelFault::Memory) => Err(IngestFault::Memory),
-        Err(fault) => Err(IngestFault::Label(fault)),
+        Err(refused) => Err(refused.map(IngestFault::Label)),
     }
 }
 
-fn read_pairs(alloc: Global, parameters: &[Parameter]) -> Result<Vec<(Name, Name)>, IngestFault>
-    ensures { MatchResult result (λ pairs. IsSeries (pairs_of parameters.now) pairs.items) (IsSeriesFault (pairs_of parameters.now)) }
+fn read_pairs(
+    alloc: Global,
+    parameters: &[Parameter],
+) -> Result<Vec<(Name, Name)>, Refused<IngestFault>>
+    ensures { MatchResult result (λ pairs. IsSeries (pairs_of parameters.now) pairs.items) (IfFault (IsSeriesFault (pairs_of parameters.now))) }
 {
     let Some(text) = first_value(parameters, "name") else {
-        return Err(IngestFault::Name(0));
+        return Err(Refused::Fault(IngestFault::Name(0)));
     };
     match read_series_name(alloc, text) {
         Ok(series) => Ok(pairs_of_series(alloc, series.service, &series.pairs)?),
-        Err(NameFault::Broken(at)) => Err(IngestFault::Name(at)),
-        Err(NameFault::Memory) => Err(IngestFault::Memory),
+        Err(Refused::Fault(NameFault::Broken(at))) => Err(Refused::Fault(IngestFault::Name(at))),
+        Err(Refused::Memory) => Err(Refused::Memory),
     }
 }
 

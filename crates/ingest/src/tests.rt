@@ -1,5 +1,6 @@
 // Worked requests, and what no clause says: that the call succeeds with ample memory, and the texts of the faults.
 use crate::{IngestFault, read_ingest};
+use faults::Refused;
 use folded_reader::FoldedFault;
 use pprof_codec::PprofFault;
 use profile_model::{LabelFault, Profile, ProfileType, Push, Tenant};
@@ -16,7 +17,11 @@ const PPROF: &[u8] = b"\x0A\x04\x08\x01\x10\x02\
     \x2A\x04\x08\x01\x10\x03\x2A\x04\x08\x02\x10\x04\
     \x32\x00\x32\x07samples\x32\x05count\x32\x04leaf\x32\x04main";
 
-fn read(alloc: Global, query: &str, body: &[u8]) -> Result<Result<Push, IngestFault>, Fail> {
+fn read(
+    alloc: Global,
+    query: &str,
+    body: &[u8],
+) -> Result<Result<Push, Refused<IngestFault>>, Fail> {
     let tenant = Tenant::read(alloc, b"team")?;
     let parameters = read_parameters(alloc, query.as_bytes())?;
     Ok(read_ingest(alloc, tenant, &parameters, body, MOMENT_MS))
@@ -98,6 +103,13 @@ fn a_profile_has_what_parameters_and_body_say(rt: HostRuntime) -> Result<(), Fai
     Ok(())
 }
 
+fn fault_of(alloc: Global, query: &str, body: &[u8]) -> Result<Option<IngestFault>, Fail> {
+    match read(alloc, query, body)? {
+        Err(Refused::Fault(fault)) => Ok(Some(fault)),
+        _ => Ok(None),
+    }
+}
+
 #[test]
 fn the_first_fault_is_told(rt: HostRuntime) -> Result<(), Fail> {
     let alloc = rt.alloc();
@@ -142,10 +154,12 @@ fn the_first_fault_is_told(rt: HostRuntime) -> Result<(), Fail> {
         ("name=app&format=Lines", b"main", "I3", &[]),
     ];
     for (query, body, code, place) in cases {
-        let fault = read(alloc, query, body)?.err();
-        assert_eq!(rt; fault.and_then(|fault| fault.code()), Some(code), "{query}");
-        if let Some(fault) = fault {
-            assert_eq!(rt; fault.place().as_slice(), place, "{query}");
+        match fault_of(alloc, query, body)? {
+            Some(fault) => {
+                assert_eq!(rt; fault.code(), code, "{query}");
+                assert_eq!(rt; fault.place().numbers().as_slice(), place, "{query}");
+            }
+            None => assert!(rt; false, "{query}"),
         }
     }
     Ok(())
@@ -170,9 +184,10 @@ fn faults_have_texts(rt: HostRuntime) -> Result<(), Fail> {
             "the profile is compressed",
         ),
         (IngestFault::Weight, "the push is too large"),
-        (IngestFault::Memory, "out of memory"),
     ] {
-        assert_eq!(rt; fault.to_string(rt.alloc())?.as_str(), text);
+        assert_eq!(rt; Refused::Fault(fault).to_string(rt.alloc())?.as_str(), text);
     }
+    let none = Refused::<IngestFault>::Memory;
+    assert_eq!(rt; none.to_string(rt.alloc())?.as_str(), "out of memory");
     Ok(())
 }

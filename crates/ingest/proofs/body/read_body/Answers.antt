@@ -20,5 +20,5 @@ returns-in-Ok-read_pprof c =
 
 pub returns : goal.returns
 returns c =
-    pprof_stops c.args.form c.base_of.result c.args.body.now c.in-Err-read_pprof.fault c.pprof_fault.result c.in-Pprof.is c.base_of.ensures
-    c.in-Err-read_pprof.ensures.read c.pprof_fault.ensures.memory c.pprof_fault.ensures.other
+    pprof_stops c.args.form c.base_of.result c.args.body.now c.in-Err-read_pprof.refused c.map-in-Err-read_pprof.result c.in-Pprof.is c.base_of.ensures
+    c.in-Err-read_pprof.ensures.read c.map-in-Err-read_pprof.ensures

@@ -16,11 +16,10 @@ use Rattle.selector.specs.Matching.{Matching}
 use Rattle.selector.specs.Grammar.{IsSelectorText, IsQueryOf, kind_of}
 use Rattle.selector.specs.Patterns.{anchored, IsReadable, IsUnreadable, IsWellFormed, IsBuilt, IsBadSyntax, IsTooLarge}
 use Rattle.selector.specs.Read.{ForPattern, OfPattern, AreBuilt, IsFirstRefused, IsFaultOf, AreRead, IsReadSelectorBy, IsReadQueryBy}
-use Rattle.selector.specs.Laws.{AreSameAnswers}
 use Rattle.selector.specs.declared.operator.Operator.{Operator}
 use Rattle.selector.specs.declared.operator.Operator.TheVariants.{Equal, NotEqual, Finds, FindsNot}
 use Rattle.selector.specs.declared.fault.SelectorFault.{SelectorFault}
-use Rattle.selector.specs.declared.fault.SelectorFault.TheVariants.{Kind, Syntax, TooMany, Pattern, PatternRefused, Memory}
+use Rattle.selector.specs.declared.fault.SelectorFault.TheVariants.{Kind, Syntax, TooMany, Pattern, PatternRefused}
 use Rattle.selector.specs.declared.query.Query.{Query}
 use Rattle.selector.proofs.ByteLemmas.{both}
 use Rattle.selector.proofs.MeaningLemmas.{one_selector, one_query}
@@ -112,50 +111,44 @@ module _ (Form : List ℕ → List Matching → Type 0) (built : List ℕ → Bo
   many_not_few : (a b : List Matching) → Form text a → Form text b → 16 < length a → length b ≤ 16 → ⊥
   many_not_few a b form other many few = let size = ap length (one a b form other) in omega arith
 
-  fault_same : (f g : SelectorFault) → IsFaultOf Form built text f → IsFaultOf Form built text g → f ≢ Memory → g ≢ Memory → f ≡ g
-  fault_same Kind g h k some other = absurd h
-  fault_same f Kind h k some other = absurd k
-  fault_same Memory g h k some other = absurd (some refl)
-  fault_same f Memory h k some other = absurd (other refl)
-  fault_same (Syntax at) (Syntax to) h k some other = ap Syntax (breaks_once (λ t. (matchers : List Matching) × Form t matchers) text at to h.1 k.1)
-  fault_same (Syntax at) TooMany h k some other = absurd (h.0 k.0 k.1)
-  fault_same (Syntax at) (Pattern j) h k some other = absurd (h.0 k.0 k.1)
-  fault_same (Syntax at) (PatternRefused j) h k some other = absurd (h.0 k.0 k.1)
-  fault_same TooMany (Syntax to) h k some other = absurd (k.0 h.0 h.1)
-  fault_same TooMany TooMany h k some other = refl
-  fault_same TooMany (Pattern j) h k some other = absurd (many_not_few h.0 k.0 h.1 k.1 h.2 k.2)
-  fault_same TooMany (PatternRefused j) h k some other = absurd (many_not_few h.0 k.0 h.1 k.1 h.2 k.2)
-  fault_same (Pattern i) (Syntax to) h k some other = absurd (k.0 h.0 h.1)
-  fault_same (Pattern i) TooMany h k some other = absurd (many_not_few k.0 h.0 k.1 h.1 k.2 h.2)
-  fault_same (Pattern i) (Pattern j) h k some other =
+  fault_same : (f g : SelectorFault) → IsFaultOf Form built text f → IsFaultOf Form built text g → f ≡ g
+  fault_same Kind g h k = absurd h
+  fault_same f Kind h k = absurd k
+  fault_same (Syntax at) (Syntax to) h k = ap Syntax (breaks_once (λ t. (matchers : List Matching) × Form t matchers) text at to h.1 k.1)
+  fault_same (Syntax at) TooMany h k = absurd (h.0 k.0 k.1)
+  fault_same (Syntax at) (Pattern j) h k = absurd (h.0 k.0 k.1)
+  fault_same (Syntax at) (PatternRefused j) h k = absurd (h.0 k.0 k.1)
+  fault_same TooMany (Syntax to) h k = absurd (k.0 h.0 h.1)
+  fault_same TooMany TooMany h k = refl
+  fault_same TooMany (Pattern j) h k = absurd (many_not_few h.0 k.0 h.1 k.1 h.2 k.2)
+  fault_same TooMany (PatternRefused j) h k = absurd (many_not_few h.0 k.0 h.1 k.1 h.2 k.2)
+  fault_same (Pattern i) (Syntax to) h k = absurd (k.0 h.0 h.1)
+  fault_same (Pattern i) TooMany h k = absurd (many_not_few k.0 h.0 k.1 h.1 k.2 h.2)
+  fault_same (Pattern i) (Pattern j) h k =
       ap Pattern (same_first built IsBadSyntax (bad_never built) IsBadSyntax (bad_never built) k.0 i j (first_of IsBadSyntax i h.0 k.0 h.1 k.1 h.3) k.3).0
-  fault_same (Pattern i) (PatternRefused j) h k some other = absurd (bad_not_large built k.0 i j (first_of IsBadSyntax i h.0 k.0 h.1 k.1 h.3) k.3)
-  fault_same (PatternRefused i) (Syntax to) h k some other = absurd (k.0 h.0 h.1)
-  fault_same (PatternRefused i) TooMany h k some other = absurd (many_not_few k.0 h.0 k.1 h.1 k.2 h.2)
-  fault_same (PatternRefused i) (Pattern j) h k some other = absurd (bad_not_large built h.0 j i (first_of IsBadSyntax j k.0 h.0 k.1 h.1 k.3) h.3)
-  fault_same (PatternRefused i) (PatternRefused j) h k some other =
+  fault_same (Pattern i) (PatternRefused j) h k = absurd (bad_not_large built k.0 i j (first_of IsBadSyntax i h.0 k.0 h.1 k.1 h.3) k.3)
+  fault_same (PatternRefused i) (Syntax to) h k = absurd (k.0 h.0 h.1)
+  fault_same (PatternRefused i) TooMany h k = absurd (many_not_few k.0 h.0 k.1 h.1 k.2 h.2)
+  fault_same (PatternRefused i) (Pattern j) h k = absurd (bad_not_large built h.0 j i (first_of IsBadSyntax j k.0 h.0 k.1 h.1 k.3) h.3)
+  fault_same (PatternRefused i) (PatternRefused j) h k =
       ap PatternRefused
       (same_first built (IsTooLarge built) (large_not_built built) (IsTooLarge built) (large_not_built built) k.0 i j (first_of (IsTooLarge built) i h.0 k.0 h.1 k.1 h.3) k.3).0
 
-  read_no_fault : (matchers : List Matching) (fault : SelectorFault) → AreRead Form built text matchers → IsFaultOf Form built text fault → fault ≢ Memory → ⊥
-  read_no_fault matchers Kind w h some = h
-  read_no_fault matchers (Syntax at) w h some = h.0 matchers w.form
-  read_no_fault matchers TooMany w h some = many_not_few h.0 matchers h.1 w.form h.2 w.few
-  read_no_fault matchers (Pattern i) w h some =
+  read_no_fault : (matchers : List Matching) (fault : SelectorFault) → AreRead Form built text matchers → IsFaultOf Form built text fault → ⊥
+  read_no_fault matchers Kind w h = h
+  read_no_fault matchers (Syntax at) w h = h.0 matchers w.form
+  read_no_fault matchers TooMany w h = many_not_few h.0 matchers h.1 w.form h.2 w.few
+  read_no_fault matchers (Pattern i) w h =
       not_all_built built IsBadSyntax (bad_never built) matchers i (first_of IsBadSyntax i h.0 matchers h.1 w.form h.3) w.each
-  read_no_fault matchers (PatternRefused i) w h some =
+  read_no_fault matchers (PatternRefused i) w h =
       not_all_built built (IsTooLarge built) (large_not_built built) matchers i (first_of (IsTooLarge built) i h.0 matchers h.1 w.form h.3) w.each
-  read_no_fault matchers Memory w h some = some refl
 
 pub one_selector_answer : (built : List ℕ → Bool) (text : List ℕ) (first second : Result (List Matching) SelectorFault) → IsReadSelectorBy built text first
-    → IsReadSelectorBy built text second → AreSameAnswers first second
-one_selector_answer built text (Ok a) (Ok b) h k some other = ap Ok (one_selector text a b h.form k.form)
-one_selector_answer built text (Ok a) (Err g) h k some other =
-    absurd (read_no_fault IsSelectorText built text (one_selector text) a g h k (λ is. other (ap Err is)))
-one_selector_answer built text (Err f) (Ok b) h k some other =
-    absurd (read_no_fault IsSelectorText built text (one_selector text) b f k h (λ is. some (ap Err is)))
-one_selector_answer built text (Err f) (Err g) h k some other =
-    ap Err (fault_same IsSelectorText built text (one_selector text) f g h k (λ is. some (ap Err is)) (λ is. other (ap Err is)))
+    → IsReadSelectorBy built text second → first ≡ second
+one_selector_answer built text (Ok a) (Ok b) h k = ap Ok (one_selector text a b h.form k.form)
+one_selector_answer built text (Ok a) (Err g) h k = absurd (read_no_fault IsSelectorText built text (one_selector text) a g h k)
+one_selector_answer built text (Err f) (Ok b) h k = absurd (read_no_fault IsSelectorText built text (one_selector text) b f k h)
+one_selector_answer built text (Err f) (Err g) h k = ap Err (fault_same IsSelectorText built text (one_selector text) f g h k)
 
 -- ---- a query
 
@@ -189,31 +182,30 @@ same_query a b kind selector = λ i. record { kind = kind i; selector = selector
 -- the kind of a query isn't five parts, or it is and the query has an answer
 data Judged (built : List ℕ → Bool) (text : List ℕ) (result : Result Query SelectorFault) : Type 0 where
   no_kind : result ≡ Err Kind → length (parts_of (kind_of text)) ≢ 5 → Judged built text result
-  faulty : (fault : SelectorFault) → result ≡ Err fault → fault ≢ Memory → length (parts_of (kind_of text)) ≡ 5 → IsFaultOf IsQueryOf built text fault → Judged built text result
+  faulty : (fault : SelectorFault) → result ≡ Err fault → length (parts_of (kind_of text)) ≡ 5 → IsFaultOf IsQueryOf built text fault → Judged built text result
   asked : (query : Query) → result ≡ Ok query → parts_of (kind_of text) ≡ parts_in query.kind → AreRead IsQueryOf built text query.selector → Judged built text result
 
-judged : (built : List ℕ → Bool) (text : List ℕ) (result : Result Query SelectorFault) → IsReadQueryBy built text result → result ≢ Err Memory → Judged built text result
-judged built text (Ok query) h some = asked query refl h.0 h.1
-judged built text (Err Kind) h some = no_kind refl h
-judged built text (Err (Syntax at)) h some = faulty (Syntax at) refl (λ is. some (ap Err is)) h.0 h.1
-judged built text (Err TooMany) h some = faulty TooMany refl (λ is. some (ap Err is)) h.0 h.1
-judged built text (Err (Pattern i)) h some = faulty (Pattern i) refl (λ is. some (ap Err is)) h.0 h.1
-judged built text (Err (PatternRefused i)) h some = faulty (PatternRefused i) refl (λ is. some (ap Err is)) h.0 h.1
-judged built text (Err Memory) h some = absurd (some refl)
+judged : (built : List ℕ → Bool) (text : List ℕ) (result : Result Query SelectorFault) → IsReadQueryBy built text result → Judged built text result
+judged built text (Ok query) h = asked query refl h.0 h.1
+judged built text (Err Kind) h = no_kind refl h
+judged built text (Err (Syntax at)) h = faulty (Syntax at) refl h.0 h.1
+judged built text (Err TooMany) h = faulty TooMany refl h.0 h.1
+judged built text (Err (Pattern i)) h = faulty (Pattern i) refl h.0 h.1
+judged built text (Err (PatternRefused i)) h = faulty (PatternRefused i) refl h.0 h.1
 
 judged_same : (built : List ℕ → Bool) (text : List ℕ) (first second : Result Query SelectorFault) → Judged built text first → Judged built text second → first ≡ second
 judged_same built text first second (no_kind is none) (no_kind it other) = is ∙ sym it
-judged_same built text first second (no_kind is none) (faulty g it some five k) = absurd (none five)
+judged_same built text first second (no_kind is none) (faulty g it five k) = absurd (none five)
 judged_same built text first second (no_kind is none) (asked b it parts k) = absurd (none (ap length parts))
-judged_same built text first second (faulty f is some five h) (no_kind it none) = absurd (none five)
-judged_same built text first second (faulty f is some five h) (faulty g it other also k) =
-    is ∙ ap Err (fault_same IsQueryOf built text (one_query_of text) f g h k some other) ∙ sym it
-judged_same built text first second (faulty f is some five h) (asked b it parts k) = absurd (read_no_fault IsQueryOf built text (one_query_of text) b.selector f k h some)
+judged_same built text first second (faulty f is five h) (no_kind it none) = absurd (none five)
+judged_same built text first second (faulty f is five h) (faulty g it also k) =
+    is ∙ ap Err (fault_same IsQueryOf built text (one_query_of text) f g h k) ∙ sym it
+judged_same built text first second (faulty f is five h) (asked b it parts k) = absurd (read_no_fault IsQueryOf built text (one_query_of text) b.selector f k h)
 judged_same built text first second (asked a is parts h) (no_kind it none) = absurd (none (ap length parts))
-judged_same built text first second (asked a is parts h) (faulty g it some five k) = absurd (read_no_fault IsQueryOf built text (one_query_of text) a.selector g h k some)
+judged_same built text first second (asked a is parts h) (faulty g it five k) = absurd (read_no_fault IsQueryOf built text (one_query_of text) a.selector g h k)
 judged_same built text first second (asked a is parts h) (asked b it also k) =
     is ∙ ap Ok (same_query a b (one_kind a.kind b.kind (sym parts ∙ also)) (one_query_of text a.selector b.selector h.form k.form)) ∙ sym it
 
 pub one_query_answer : (built : List ℕ → Bool) (text : List ℕ) (first second : Result Query SelectorFault) → IsReadQueryBy built text first
-    → IsReadQueryBy built text second → AreSameAnswers first second
-one_query_answer built text first second h k some other = judged_same built text first second (judged built text first h some) (judged built text second k other)
+    → IsReadQueryBy built text second → first ≡ second
+one_query_answer built text first second h k = judged_same built text first second (judged built text first h) (judged built text second k)

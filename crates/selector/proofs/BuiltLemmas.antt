@@ -1,12 +1,19 @@
 -- Patterns that were built, and the first that wasn't.
-use Rattle.std.proofs.Common.{◌≡◌, ◌≢◌, ℕ, Bool, true, not, List, [], ◌∷◌, ◌++◌, length, refl, ap}
+use Rattle.std.proofs.Common.{◌≡◌, ◌≢◌, ◌≤◌, ℕ, Bool, true, not, List, [], ◌∷◌, ◌++◌, length, refl, sym, ap, subst}
 use Rattle.std.specs.Prelude.{nat_eq, IsTrue}
 use Rattle.std.specs.Cmp.Lexicographic.{pointwise, bytes_decides}
 use Rattle.std.proofs.lemmas.Bool.{false_from_ne_true}
 use Rattle.selector.specs.Matching.{Matching}
 use Rattle.selector.specs.Patterns.{IsWellFormed, IsBuilt, IsBadSyntax, IsTooLarge}
 use Rattle.selector.specs.Read.{ForPattern, ForPatterns, OfPattern, AreBuilt, IsFirstRefused}
-use Rattle.selector.specs.Building.{IsNew}
+use Rattle.faults.specs.Answers.{IfFault, IsMapped}
+use Rattle.faults.specs.declared.refused.Refused.{Refused}
+use Rattle.faults.specs.declared.refused.Refused.TheVariants.{Fault, Memory}
+use Rattle.selector.specs.Building.{IsNew, IsUnbuilt, IsBuildFault}
+use Rattle.selector.specs.Placed.{fault_of_matcher}
+use Rattle.selector.specs.declared.fault.SelectorFault.{SelectorFault}
+use Rattle.selector.specs.declared.pattern.PatternFault.{PatternFault}
+use Rattle.selector.specs.declared.pattern.PatternFault.TheVariants.{Syntax, TooLarge}
 use Rattle.selector.specs.declared.operator.Operator.{Operator}
 use Rattle.selector.specs.declared.operator.Operator.TheVariants.{Equal, NotEqual, Finds, FindsNot}
 
@@ -46,7 +53,7 @@ others_built pattern (m ∷ matchers) formed new = (
 -- ---- the first that isn't built
 
 module _ (all before : List Matching) (m : Matching) (after : List Matching) (i : ℕ) where
-  pub first_of_bad_syntax : all ≡ before ++ m ∷ after → i ≡ length before → ForPatterns IsWellFormed before → OfPattern IsBadSyntax m.operator m.value
+  first_of_bad_syntax : all ≡ before ++ m ∷ after → i ≡ length before → ForPatterns IsWellFormed before → OfPattern IsBadSyntax m.operator m.value
       → IsFirstRefused (λ _. true) all IsBadSyntax i
   first_of_bad_syntax cut place formed refused = record {
     before = before;
@@ -58,7 +65,7 @@ module _ (all before : List Matching) (m : Matching) (after : List Matching) (i 
     refused = refused;
   }
 
-  pub first_too_large : all ≡ before ++ m ∷ after → i ≡ length before → ForPatterns IsWellFormed before
+  first_too_large : all ≡ before ++ m ∷ after → i ≡ length before → ForPatterns IsWellFormed before
       → OfPattern (λ p. IsWellFormed p × IsNew before p) m.operator m.value → (built : List ℕ → Bool) × IsFirstRefused built all (IsTooLarge built) i
   first_too_large cut place formed refused = (
     others m.value,
@@ -84,3 +91,18 @@ module _ (all before : List Matching) (m : Matching) (after : List Matching) (i 
       own NotEqual value h = absurd h
       own Finds value h = (h.0, ap not ((bytes_decides value value).1 refl))
       own FindsNot value h = (h.0, ap not ((bytes_decides value value).1 refl))
+
+  built_fault : length all ≤ 16 → all ≡ before ++ m ∷ after → i ≡ length before → ForPatterns IsWellFormed before → (fault : PatternFault)
+      → IsUnbuilt before m.operator m.value fault → (built : List ℕ → Bool) × IsBuildFault built all (fault_of_matcher i fault)
+  built_fault few cut place formed Syntax refused = (λ _. true, (few, first_of_bad_syntax cut place formed refused))
+  built_fault few cut place formed TooLarge refused = let first = first_too_large cut place formed refused in (first.0, (few, first.1))
+
+  -- what its pattern is refused for, told of the selector
+  pub told_of_matcher : length all ≤ 16 → all ≡ before ++ m ∷ after → i ≡ length before → ForPatterns IsWellFormed before
+      → (refused : Refused PatternFault) (told : Refused SelectorFault) → IsMapped (λ fault told. told ≡ fault_of_matcher i fault) refused told
+      → IfFault (IsUnbuilt before m.operator m.value) refused → IfFault (λ fault. (built : List ℕ → Bool) × IsBuildFault built all fault) told
+  told_of_matcher few cut place formed (Fault fault) (Fault told) same unbuilt =
+      subst (λ other. (built : List ℕ → Bool) × IsBuildFault built all other) (sym same) (built_fault few cut place formed fault unbuilt)
+  told_of_matcher few cut place formed (Fault fault) Memory same unbuilt = tt
+  told_of_matcher few cut place formed Memory (Fault told) same unbuilt = absurd same
+  told_of_matcher few cut place formed Memory Memory same unbuilt = tt

@@ -8,14 +8,17 @@ use Rattle.std.proofs.lemmas.List.{get_or-take, length-take, take_all}
 use Rattle.std.proofs.lemmas.List.Sums.{fails_before_first, passes_at_first, split_at_first, list_all-from_AllPass}
 use Rattle.selector.specs.Matching.{Matching}
 use Rattle.selector.specs.Grammar.{is_space, IsInside, IsSelectorText, IsKind, IsQueryOf, kind_of}
+use Rattle.faults.specs.Answers.{IfAnswered, IfFault, IsMapped}
+use Rattle.faults.specs.declared.refused.Refused.{Refused}
+use Rattle.faults.specs.declared.refused.Refused.TheVariants.{Fault, Memory}
 use Rattle.profile_model.specs.Kinds.{parts_of}
-use Rattle.selector.specs.Read.{IsFaultOf, IsReadQueryBy, IsReadSelector, AreBuilt}
+use Rattle.selector.specs.Read.{IsFaultOf, IsReadQueryBy, IsReadSelector, IsReadQuery, AreBuilt}
 use Rattle.selector.specs.Building.{IsBuildFault}
 use Rattle.selector.specs.Runs.{begins_with, IsRun}
 use Rattle.selector.specs.Rests.{AtInside, AtSelector, AtQuery, IsBrokenOff, IsReadFault}
 use Rattle.selector.specs.Placed.{placed_at}
 use Rattle.selector.specs.declared.fault.SelectorFault.{SelectorFault}
-use Rattle.selector.specs.declared.fault.SelectorFault.TheVariants.{Kind, Syntax, TooMany, Pattern, PatternRefused, Memory}
+use Rattle.selector.specs.declared.fault.SelectorFault.TheVariants.{Kind, Syntax, TooMany, Pattern, PatternRefused}
 use Rattle.selector.specs.declared.written.ReadFault.{ReadFault}
 use Rattle.selector.specs.declared.written.ReadFault.TheVariants as rest
 use Rattle.selector.proofs.BreakLemmas.{BeginAlike, broken_after, broken_past, breaks_at}
@@ -118,15 +121,33 @@ broken_query text inside left is broken =
 
 -- ---- faults
 
-pub placed_fault : (Form : List ℕ → List Matching → Type 0) (built : List ℕ → Bool) (text : List ℕ) (fault : ReadFault)
+placed_fault : (Form : List ℕ → List Matching → Type 0) (built : List ℕ → Bool) (text : List ℕ) (fault : ReadFault)
     → IsReadFault (λ t. (matchers : List Matching) × Form t matchers) text fault → IsFaultOf Form built text (placed_at (length text) fault)
 placed_fault Form built text (rest.BreaksOff left) w = ((λ matchers form. w.outside (matchers, form)), breaks_at (λ t. (matchers : List Matching) × Form t matchers) text left w)
-placed_fault Form built text rest.Memory w = tt
 
-pub query_fault : (built : List ℕ → Bool) (text : List ℕ) → length (parts_of (kind_of text)) ≡ 5 → (fault : ReadFault) → IsReadFault AtQuery text fault
+query_fault : (built : List ℕ → Bool) (text : List ℕ) → length (parts_of (kind_of text)) ≡ 5 → (fault : ReadFault) → IsReadFault AtQuery text fault
     → IsReadQueryBy built text (Err (placed_at (length text) fault))
 query_fault built text five (rest.BreaksOff left) w = (five, placed_fault IsQueryOf built text (rest.BreaksOff left) w)
-query_fault built text five rest.Memory w = tt
+
+-- a rest that isn't read, told as a selector that isn't
+pub placed_selector : (text : List ℕ) (before : Refused ReadFault) (after : Refused SelectorFault)
+    → IsMapped (λ fault placed. placed ≡ placed_at (length text) fault) before after → IfFault (IsReadFault AtSelector text) before
+    → IfAnswered (IsReadSelector text) (Err after)
+placed_selector text (Fault fault) (Fault placed) same w =
+    (λ _. true, subst (IsFaultOf IsSelectorText (λ _. true) text) (sym same) (placed_fault IsSelectorText (λ _. true) text fault w))
+placed_selector text (Fault fault) Memory same w = tt
+placed_selector text Memory (Fault placed) same w = absurd same
+placed_selector text Memory Memory same w = tt
+
+-- and as a query that isn't
+pub placed_query : (text : List ℕ) → length (parts_of (kind_of text)) ≡ 5 → (before : Refused ReadFault) (after : Refused SelectorFault)
+    → IsMapped (λ fault placed. placed ≡ placed_at (length text) fault) before after → IfFault (IsReadFault AtQuery text) before
+    → IfAnswered (IsReadQuery text) (Err after)
+placed_query text five (Fault fault) (Fault placed) same w =
+    (λ _. true, subst (λ other. IsReadQueryBy (λ _. true) text (Err other)) (sym same) (query_fault (λ _. true) text five fault w))
+placed_query text five (Fault fault) Memory same w = tt
+placed_query text five Memory (Fault placed) same w = absurd same
+placed_query text five Memory Memory same w = tt
 
 built_fault : (Form : List ℕ → List Matching → Type 0) (built : List ℕ → Bool) (text : List ℕ) (matchers : List Matching) → Form text matchers
     → (fault : SelectorFault) → IsBuildFault built matchers fault → IsFaultOf Form built text fault
@@ -135,10 +156,11 @@ built_fault Form built text matchers form (Syntax at) w = absurd w
 built_fault Form built text matchers form TooMany w = (matchers, form, w)
 built_fault Form built text matchers form (Pattern i) w = (matchers, form, w.0, w.1)
 built_fault Form built text matchers form (PatternRefused i) w = (matchers, form, w.0, w.1)
-built_fault Form built text matchers form Memory w = tt
 
-pub read_selector : (text : List ℕ) (matchers : List Matching) → IsSelectorText text matchers → (result : Result (List Matching) SelectorFault)
-    → MatchResult result (λ selector. (selector ≡ matchers) × (length selector ≤ 16) × AreBuilt (λ _. true) selector) (λ fault. (built : List ℕ → Bool) × IsBuildFault built matchers fault)
-    → IsReadSelector text result
+pub read_selector : (text : List ℕ) (matchers : List Matching) → IsSelectorText text matchers → (result : Result (List Matching) (Refused SelectorFault))
+    → MatchResult result (λ selector. (selector ≡ matchers) × (length selector ≤ 16) × AreBuilt (λ _. true) selector)
+    (IfFault (λ fault. (built : List ℕ → Bool) × IsBuildFault built matchers fault))
+    → IfAnswered (IsReadSelector text) result
 read_selector text matchers form (Ok selector) w = (λ _. true, record { form = subst (IsSelectorText text) (sym w.0) form; few = w.1; each = w.2 })
-read_selector text matchers form (Err fault) w = (w.0, built_fault IsSelectorText w.0 text matchers form fault w.1)
+read_selector text matchers form (Err (Fault fault)) w = (w.0, built_fault IsSelectorText w.0 text matchers form fault w.1)
+read_selector text matchers form (Err Memory) w = tt

@@ -10,8 +10,11 @@ use Rattle.profile_model.specs.Breaks.{Begins}
 use Rattle.selector.specs.Grammar.{is_plain, escaped, IsWritten, AreWritten, IsString}
 use Rattle.selector.specs.Runs.{begins_with, IsRun}
 use Rattle.selector.specs.Rests.{AtWritten, AtString, IsBrokenOff, IsReadFault}
+use Rattle.faults.specs.Answers.{IfFault}
+use Rattle.faults.specs.declared.refused.Refused.{Refused}
+use Rattle.faults.proofs.AnswerLemmas.{IfFault-weaker}
 use Rattle.selector.specs.declared.written.ReadFault.{ReadFault}
-use Rattle.selector.specs.declared.written.ReadFault.TheVariants.{BreaksOff, Memory}
+use Rattle.selector.specs.declared.written.ReadFault.TheVariants.{BreaksOff}
 use Rattle.selector.proofs.BreakLemmas.{broken_after, broken_here}
 use Rattle.selector.proofs.ByteLemmas.{both, begins_not, clash, otherwise_alike}
 use Rattle.selector.proofs.TokenLemmas.{more_begins, written_begins, string_begins}
@@ -201,7 +204,10 @@ no_string text quote =
 pub read_fault : (Form Next : List ℕ → Type 0) (text rest : List ℕ) → ((left : ℕ) → IsBrokenOff Next rest left → IsBrokenOff Form text left)
     → (fault : ReadFault) → IsReadFault Next rest fault → IsReadFault Form text fault
 read_fault Form Next text rest on (BreaksOff left) broken = on left broken
-read_fault Form Next text rest on Memory broken = tt
+
+pub read_refused : (Form Next : List ℕ → Type 0) (text rest : List ℕ) → ((left : ℕ) → IsBrokenOff Next rest left → IsBrokenOff Form text left)
+    → (refused : Refused ReadFault) → IfFault (IsReadFault Next rest) refused → IfFault (IsReadFault Form text) refused
+read_refused Form Next text rest on refused broken = IfFault-weaker refused (read_fault Form Next text rest on) broken
 
 pub string_of : (text inside rest after value : List ℕ) → text ≡ 34 ∷ rest → rest ≡ inside ++ 34 ∷ after → AreWritten inside value
     → (string : List ℕ) × (text ≡ string ++ after) × IsString string value

@@ -7,7 +7,7 @@ use Rattle.selector.specs.declared.operator.Operator.{Operator}
 use Rattle.selector.specs.declared.pattern.PatternFault.{PatternFault}
 use Rattle.selector.specs.declared.pattern.PatternFault.TheVariants as pattern
 use Rattle.selector.specs.declared.fault.SelectorFault.{SelectorFault}
-use Rattle.selector.specs.declared.fault.SelectorFault.TheVariants.{Kind, Syntax, TooMany, Pattern, PatternRefused, Memory}
+use Rattle.selector.specs.declared.fault.SelectorFault.TheVariants.{Kind, Syntax, TooMany, Pattern, PatternRefused}
 
 -- no matcher has this pattern
 abbrev pub IsNew : List Matching → List ℕ → Type 0
@@ -17,7 +17,6 @@ IsNew matchers pattern = ForPatterns (λ other. other ≢ pattern) matchers
 abbrev pub IsUnbuilt : List Matching → Operator → List ℕ → PatternFault → Type 0
 IsUnbuilt before operator asked pattern.Syntax = OfPattern IsBadSyntax operator asked
 IsUnbuilt before operator asked pattern.TooLarge = OfPattern (λ p. IsWellFormed p × IsNew before p) operator asked
-IsUnbuilt before operator asked pattern.Memory = Unit {0}
 
 -- the fault of matchers that are written: too many, or the first pattern that isn't built
 abbrev pub IsBuildFault : (List ℕ → Bool) → List Matching → SelectorFault → Type 0
@@ -26,4 +25,3 @@ IsBuildFault built matchers (Syntax at) = ⊥
 IsBuildFault built matchers TooMany = 16 < length matchers
 IsBuildFault built matchers (Pattern i) = (length matchers ≤ 16) × IsFirstRefused built matchers IsBadSyntax i
 IsBuildFault built matchers (PatternRefused i) = (length matchers ≤ 16) × IsFirstRefused built matchers (IsTooLarge built) i
-IsBuildFault built matchers Memory = Unit {0}

@@ -10,7 +10,7 @@ use Rattle.selector.specs.Patterns.{IsBuilt, IsBadSyntax, IsTooLarge}
 use Rattle.selector.specs.declared.operator.Operator.{Operator}
 use Rattle.selector.specs.declared.operator.Operator.TheVariants.{Equal, NotEqual, Finds, FindsNot}
 use Rattle.selector.specs.declared.fault.SelectorFault.{SelectorFault}
-use Rattle.selector.specs.declared.fault.SelectorFault.TheVariants.{Kind, Syntax, TooMany, Pattern, PatternRefused, Memory}
+use Rattle.selector.specs.declared.fault.SelectorFault.TheVariants.{Kind, Syntax, TooMany, Pattern, PatternRefused}
 use Rattle.selector.specs.declared.query.Query.{Query}
 
 -- P holds of the matcher's pattern, where it has one
@@ -53,7 +53,6 @@ IsFaultOf Form built text (Syntax at) = ((matchers : List Matching) → ¬ (Form
 IsFaultOf Form built text TooMany = (matchers : List Matching) × Form text matchers × (16 < length matchers)
 IsFaultOf Form built text (Pattern i) = (matchers : List Matching) × Form text matchers × (length matchers ≤ 16) × IsFirstRefused built matchers IsBadSyntax i
 IsFaultOf Form built text (PatternRefused i) = (matchers : List Matching) × Form text matchers × (length matchers ≤ 16) × IsFirstRefused built matchers (IsTooLarge built) i
-IsFaultOf Form built text Memory = Unit {0}
 
 -- the matchers that a text stands for: at most 16, every pattern built
 pub record AreRead (Form : List ℕ → List Matching → Type 0) (built : List ℕ → Bool) (text : List ℕ) (matchers : List Matching) : Type 0 where
@@ -71,7 +70,6 @@ IsReadSelectorBy built text (Err fault) = IsFaultOf IsSelectorText built text fa
 abbrev pub IsReadQueryBy : (List ℕ → Bool) → List ℕ → Result Query SelectorFault → Type 0
 IsReadQueryBy built text (Ok query) = (parts_of (kind_of text) ≡ parts_in query.kind) × AreRead IsQueryOf built text query.selector
 IsReadQueryBy built text (Err Kind) = length (parts_of (kind_of text)) ≢ 5
-IsReadQueryBy built text (Err Memory) = Unit {0}
 IsReadQueryBy built text (Err fault) = (length (parts_of (kind_of text)) ≡ 5) × IsFaultOf IsQueryOf built text fault
 
 -- ---- where regex chooses

@@ -9,7 +9,7 @@ use Rattle.selector.specs.declared.operator.Operator.{Operator}
 use Rattle.selector.specs.declared.operator.Operator.TheVariants.{Equal}
 use Rattle.selector.specs.declared.written.Written.{Written}
 use Rattle.selector.specs.declared.written.ReadFault.{ReadFault}
-use Rattle.selector.specs.declared.written.ReadFault.TheVariants.{BreaksOff, Memory}
+use Rattle.selector.specs.declared.written.ReadFault.TheVariants.{BreaksOff}
 
 abbrev pub matching_of : Written → Matching
 matching_of written = record { name = written.name.now; operator = written.operator; value = string_bytes written.value }
@@ -72,7 +72,6 @@ pub record IsBrokenOff (Form : List ℕ → Type 0) (text : List ℕ) (left : �
 
 abbrev pub IsReadFault : (List ℕ → Type 0) → List ℕ → ReadFault → Type 0
 IsReadFault Form text (BreaksOff left) = IsBrokenOff Form text left
-IsReadFault Form text Memory = Unit {0}
 
 -- ---- whole selectors
 

@@ -5,7 +5,7 @@ use Rattle.regex.specs.Strings.{regex_source, regex_config, regex_pattern, IsRea
 use Rattle.regex.specs.declared.string.regex.Regex.{Regex}
 use Rattle.selector.specs.Patterns.{finds, IsReadable, IsUnreadable, IsWellFormed, IsBadSyntax}
 use Rattle.selector.specs.declared.pattern.PatternFault.{PatternFault}
-use Rattle.selector.specs.declared.pattern.PatternFault.TheVariants.{Syntax, TooLarge, Memory}
+use Rattle.selector.specs.declared.pattern.PatternFault.TheVariants.{Syntax, TooLarge}
 
 -- the regex is what regex's grammar reads in the text
 pub record IsBuiltFrom (text : List ℕ) (regex : Regex) : Type 0 where
@@ -22,10 +22,8 @@ IsFoundAs pattern regex =
 abbrev pub IsRefusalOf : List ℕ → PatternFault → Type 0
 IsRefusalOf text Syntax = IsUnreadable text
 IsRefusalOf text TooLarge = IsReadable text
-IsRefusalOf text Memory = Unit {0}
 
 -- what a refusal of a pattern says of it
 abbrev pub IsRefused : List ℕ → PatternFault → Type 0
 IsRefused pattern Syntax = IsBadSyntax pattern
 IsRefused pattern TooLarge = IsWellFormed pattern
-IsRefused pattern Memory = Unit {0}

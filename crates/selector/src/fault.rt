@@ -1,9 +1,10 @@
 // Why a text is no selector or query.
-ghost use Rattle.std.specs.Prelude.{◌≡◌, option_map};
-ghost use Rattle.selector.specs.declared.fault.SelectorFault.TheVariants.{Memory};
+ghost use Rattle.std.specs.Prelude.{◌≡◌};
+ghost use Rattle.faults.specs.Places.{numbers_of};
+ghost use Rattle.faults.specs.declared.refused.Refused.TheVariants.{Fault};
 ghost use Rattle.selector.specs.Faults.{code_of, place_of};
 
-use std::alloc::{AllocError, AllocFailed};
+use faults::{Place, Refused};
 use std::error::Error;
 use std::fmt;
 
@@ -20,34 +21,32 @@ pub enum SelectorFault {
     Pattern(usize),
     /// `regex` refuses that pattern for another cause than its syntax.
     PatternRefused(usize),
-    Memory,
 }
 
 impl SelectorFault {
-    /// The code that stands for the fault in a reply. Want of memory has none.
-    pub fn code(&self) -> Option<&'static str>
-        ensures { option_map (λ code. code.now) result ≡ code_of self.now }
+    /// The code that stands for the fault: `S1` to `S5`.
+    pub fn code(&self) -> &'static str
+        ensures { result.now ≡ code_of self.now }
     {
         match self {
-            SelectorFault::Kind => Some("S1"),
-            SelectorFault::Syntax(_) => Some("S2"),
-            SelectorFault::Pattern(_) => Some("S3"),
-            SelectorFault::TooMany => Some("S4"),
-            SelectorFault::PatternRefused(_) => Some("S5"),
-            SelectorFault::Memory => None,
+            SelectorFault::Kind => "S1",
+            SelectorFault::Syntax(_) => "S2",
+            SelectorFault::Pattern(_) => "S3",
+            SelectorFault::TooMany => "S4",
+            SelectorFault::PatternRefused(_) => "S5",
         }
     }
 
     /// The place of the byte, or the number of the matcher.
-    pub fn place(&self) -> Option<u64>
-        ensures { result ≡ place_of self.now }
+    pub fn place(&self) -> Place
+        ensures { numbers_of result ≡ place_of self.now }
     {
         match self {
-            SelectorFault::Syntax(at) => Some(*at as u64),
-            SelectorFault::Pattern(number) | SelectorFault::PatternRefused(number) => Some(
-                *number as u64,
-            ),
-            SelectorFault::Kind | SelectorFault::TooMany | SelectorFault::Memory => None,
+            SelectorFault::Syntax(at) => Place::At(*at as u64),
+            SelectorFault::Pattern(number) | SelectorFault::PatternRefused(number) => {
+                Place::At(*number as u64)
+            }
+            SelectorFault::Kind | SelectorFault::TooMany => Place::Whole,
         }
     }
 }
@@ -63,25 +62,16 @@ impl fmt::Display for SelectorFault {
                 f,
                 "the pattern of matcher {number} is too large"
             ),
-            SelectorFault::Memory => write!(f, "out of memory"),
         }
     }
 }
 
 impl Error for SelectorFault {}
 
-impl From<AllocError> for SelectorFault {
-    ghost from_gives = { λ _ fault. fault ≡ Memory };
+impl From<SelectorFault> for Refused<SelectorFault> {
+    ghost from_gives = { λ fault refused. refused ≡ Fault fault };
 
-    fn from(_error: AllocError) -> SelectorFault {
-        SelectorFault::Memory
-    }
-}
-
-impl<T: Drop> From<AllocFailed<T>> for SelectorFault {
-    ghost from_gives = { λ _ fault. fault ≡ Memory };
-
-    fn from(_error: AllocFailed<T>) -> SelectorFault {
-        SelectorFault::Memory
+    fn from(fault: SelectorFault) -> Refused<SelectorFault> {
+        Refused::Fault(fault)
     }
 }

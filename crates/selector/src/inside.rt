@@ -1,18 +1,20 @@
 // What stands between a selector's braces.
-ghost use Rattle.std.specs.Prelude.{◌≡◌, map, MatchResult};
+ghost use Rattle.std.specs.Prelude.{map, MatchResult};
+ghost use Rattle.faults.specs.Answers.{IfFault};
 ghost use Rattle.selector.specs.Grammar.{IsInside, IsSpace};
 ghost use Rattle.selector.specs.Rests.{AtInside, AtMore, Separates, IsReadFault, matching_of};
 
 use crate::matcher::read_matcher;
 use crate::tokens::{skip_space, strip};
 use crate::written::{ReadFault, Written};
+use faults::Refused;
 use std::alloc::Global;
 
 // The matchers of a text that follows an opening brace, up to its end.
-pub(crate) fn read_inside(alloc: Global, text: &str) -> Result<Vec<Written<'_>>, ReadFault>
+pub(crate) fn read_inside(alloc: Global, text: &str) -> Result<Vec<Written<'_>>, Refused<ReadFault>>
     ensures { MatchResult result
         (λ matchers. IsInside text.now (map matching_of matchers.items))
-        (IsReadFault AtInside text.now) }
+        (IfFault (IsReadFault AtInside text.now)) }
 {
     let mut matchers = Vec::new(alloc);
     let mut rest = skip_space(text);

@@ -1,8 +1,8 @@
 // Laws of selectors. Each function states one, and does nothing.
-ghost use Rattle.std.specs.Prelude.{ℕ, Bool, List, Result};
+ghost use Rattle.std.specs.Prelude.{◌≡◌, ℕ, Bool, List, Result};
 ghost use Rattle.selector.specs.Matching.{Matching};
 ghost use Rattle.selector.specs.Read.{IsReadSelectorBy, IsReadQueryBy};
-ghost use Rattle.selector.specs.Laws.{IsOneSelector, IsOneQuery, AreSameAnswers};
+ghost use Rattle.selector.specs.Laws.{IsOneSelector, IsOneQuery};
 ghost use Rattle.selector.specs.declared.fault.SelectorFault.{SelectorFault};
 ghost use Rattle.selector.specs.declared.query.Query.{Query};
 
@@ -13,10 +13,10 @@ pub fn one_meaning()
 {}
 
 /// Where it is settled which patterns `regex` builds, a text has one answer: its matchers, or one fault in one place.
-/// Want of memory alone may stand for it.
+/// Want of memory alone may come in its place.
 pub fn one_answer()
     ensures selector { (built : List ℕ → Bool) (text : List ℕ) (first second : Result (List Matching) SelectorFault) →
-        IsReadSelectorBy built text first → IsReadSelectorBy built text second → AreSameAnswers first second }
+        IsReadSelectorBy built text first → IsReadSelectorBy built text second → first ≡ second }
     ensures query { (built : List ℕ → Bool) (text : List ℕ) (first second : Result Query SelectorFault) →
-        IsReadQueryBy built text first → IsReadQueryBy built text second → AreSameAnswers first second }
+        IsReadQueryBy built text first → IsReadQueryBy built text second → first ≡ second }
 {}

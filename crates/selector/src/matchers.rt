@@ -1,16 +1,19 @@
 // A selector's matchers, with their patterns built.
 ghost use Rattle.std.specs.Prelude.{◌≡◌, ◌≢◌, ◌≤◌, ℕ, Bool, List, IfOk, MatchOption, MatchResult, map, length, string_bytes, true};
 ghost use Rattle.std.specs.Arc.{arc_value};
-ghost use Rattle.selector.specs.Matching.{Matching, passes, holds, seen_labels, value_of};
+ghost use Rattle.faults.specs.Answers.{IfFault, IsMapped};
+ghost use Rattle.selector.specs.Matching.{passes, holds, seen_labels};
 ghost use Rattle.selector.specs.Matchers.{matching_of, operator_of, asked_of};
 ghost use Rattle.selector.specs.Read.{AreBuilt, ForPattern, ForPatterns, OfPattern};
 ghost use Rattle.selector.specs.Patterns.{IsWellFormed};
 ghost use Rattle.selector.specs.Building.{IsNew, IsUnbuilt, IsBuildFault};
+ghost use Rattle.selector.specs.Placed.{fault_of_matcher};
 ghost use Rattle.selector.specs.Rests as rests;
 
 use crate::pattern::{Pattern, PatternFault};
 use crate::written::Written;
 use crate::{Operator, SelectorFault};
+use faults::Refused;
 use profile_model::{LabelSet, ProfileType};
 use std::alloc::{AllocError, Global};
 use std::sync::Arc;
@@ -46,11 +49,11 @@ impl Test {
         before: &[Matcher],
         operator: Operator,
         asked: String,
-    ) -> Result<Test, PatternFault>
+    ) -> Result<Test, Refused<PatternFault>>
         requires formed { ForPatterns IsWellFormed (map matching_of before.now) }
         ensures { MatchResult result
             (λ test. (operator_of test ≡ operator) × (asked_of test ≡ string_bytes asked) × ForPattern IsWellFormed operator (string_bytes asked))
-            (IsUnbuilt (map matching_of before.now) operator (string_bytes asked)) }
+            (IfFault (IsUnbuilt (map matching_of before.now) operator (string_bytes asked))) }
     {
         match operator {
             Operator::Equal => Ok(Test::Equal(asked)),
@@ -91,11 +94,11 @@ impl Matcher {
         alloc: Global,
         before: &[Matcher],
         written: Written<'_>,
-    ) -> Result<Matcher, PatternFault>
+    ) -> Result<Matcher, Refused<PatternFault>>
         requires formed { ForPatterns IsWellFormed (map matching_of before.now) }
         ensures { MatchResult result
             (λ matcher. (matching_of matcher ≡ rests.matching_of written.entry) × ForPattern IsWellFormed written.entry.operator (string_bytes written.entry.value))
-            (IsUnbuilt (map matching_of before.now) written.entry.operator (string_bytes written.entry.value)) }
+            (IfFault (IsUnbuilt (map matching_of before.now) written.entry.operator (string_bytes written.entry.value))) }
     {
         let test = Test::build(alloc, before, written.operator, written.value)?;
         let name = String::from_str(alloc, written.name)?;
@@ -130,11 +133,11 @@ fn shared_pattern(
     alloc: Global,
     before: &[Matcher],
     text: String,
-) -> Result<Arc<Pattern>, PatternFault>
+) -> Result<Arc<Pattern>, Refused<PatternFault>>
     requires formed { ForPatterns IsWellFormed (map matching_of before.now) }
     ensures { MatchResult result
         (λ pattern. (string_bytes (arc_value pattern).text ≡ string_bytes text) × IsWellFormed (string_bytes text))
-        (IsUnbuilt (map matching_of before.now) Operator.Finds (string_bytes text)) }
+        (IfFault (IsUnbuilt (map matching_of before.now) Operator.Finds (string_bytes text))) }
 {
     match find_pattern(before, text.as_str()) {
         Some(pattern) => Ok(pattern.clone()?),
@@ -160,23 +163,28 @@ fn find_pattern<'a>(matchers: &'a [Matcher], text: &str) -> Option<&'a Arc<Patte
 pub(crate) fn build_all(
     alloc: Global,
     written: Vec<Written<'_>>,
-) -> Result<Vec<Matcher>, SelectorFault>
+) -> Result<Vec<Matcher>, Refused<SelectorFault>>
     ensures { MatchResult result
         (λ matchers. (map matching_of matchers.items ≡ map rests.matching_of written.entry.items) × (length written.entry.items ≤ 16) × AreBuilt (λ _. true) (map rests.matching_of written.entry.items))
-        (λ fault. (built : List ℕ → Bool) × IsBuildFault built (map rests.matching_of written.entry.items) fault) }
+        (IfFault (λ fault. (built : List ℕ → Bool) × IsBuildFault built (map rests.matching_of written.entry.items) fault)) }
 {
     if written.len() > MAX_MATCHERS {
-        return Err(SelectorFault::TooMany);
+        return Err(Refused::Fault(SelectorFault::TooMany));
     }
     let mut matchers = Vec::new(alloc);
     for matcher in written {
         let number = matchers.len();
         match Matcher::build(alloc, &matchers, matcher) {
             Ok(matcher) => matchers.push(matcher)?,
-            Err(PatternFault::Syntax) => return Err(SelectorFault::Pattern(number)),
-            Err(PatternFault::TooLarge) => return Err(SelectorFault::PatternRefused(number)),
-            Err(PatternFault::Memory) => return Err(SelectorFault::Memory),
+            Err(refused) => return Err(of_matcher(number, refused)),
         }
     }
     Ok(matchers)
+}
+
+// Why a selector isn't read, where the pattern of the matcher with this number isn't built.
+fn of_matcher(number: usize, refused: Refused<PatternFault>) -> Refused<SelectorFault>
+    ensures { IsMapped (λ fault told. told ≡ fault_of_matcher number fault) refused result }
+{
+    refused.map(|fault| fault.of_matcher(number))
 }

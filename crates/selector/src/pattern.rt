@@ -2,10 +2,13 @@
 ghost use Rattle.std.specs.Prelude.{◌≡◌, ◌≢◌, MatchResult, IfOk, IfErr, OnOk, string_bytes};
 ghost use Rattle.selector.specs.Patterns.{anchored, finds, IsReadable, IsWellFormed};
 ghost use Rattle.selector.specs.Stored.{IsFoundAs, IsBuiltFrom, IsRefusalOf, IsRefused};
-ghost use Rattle.selector.specs.declared.pattern.PatternFault.TheVariants.{Memory};
+ghost use Rattle.selector.specs.Placed.{fault_of_matcher};
+ghost use Rattle.faults.specs.Answers.{IfFault};
 
+use crate::SelectorFault;
+use faults::Refused;
 use regex::Regex;
-use std::alloc::{AllocError, AllocFailed, Global};
+use std::alloc::{AllocError, Global};
 
 // A pattern P, and what `regex` built of `\A(?:P)\z`.
 #[derive(Drop)]
@@ -20,39 +23,34 @@ pub(crate) struct Pattern {
 pub(crate) enum PatternFault {
     Syntax,
     TooLarge,
-    Memory,
 }
 
-impl From<AllocError> for PatternFault {
-    ghost from_gives = { λ _ fault. fault ≡ Memory };
-
-    fn from(_error: AllocError) -> PatternFault {
-        PatternFault::Memory
-    }
-}
-
-impl<T: Drop> From<AllocFailed<T>> for PatternFault {
-    ghost from_gives = { λ _ fault. fault ≡ Memory };
-
-    fn from(_error: AllocFailed<T>) -> PatternFault {
-        PatternFault::Memory
+impl PatternFault {
+    // As a fault of the selector whose matcher with this number has the pattern.
+    pub(crate) fn of_matcher(self, number: usize) -> SelectorFault
+        ensures { result ≡ fault_of_matcher number self }
+    {
+        match self {
+            PatternFault::Syntax => SelectorFault::Pattern(number),
+            PatternFault::TooLarge => SelectorFault::PatternRefused(number),
+        }
     }
 }
 
 impl Pattern {
     // The pattern has to be one by itself too: `a)(?:b` is one only between the anchors. What is too large by itself
     // may still be none between them.
-    pub(crate) fn build(alloc: Global, text: String) -> Result<Pattern, PatternFault>
+    pub(crate) fn build(alloc: Global, text: String) -> Result<Pattern, Refused<PatternFault>>
         ensures { MatchResult result
             (λ pattern. (string_bytes pattern.text ≡ string_bytes text) × IsWellFormed (string_bytes text))
-            (IsRefused (string_bytes text)) }
+            (IfFault (IsRefused (string_bytes text))) }
     {
         let fits = fits(alloc, text.as_str())?;
         let regex = build_anchored(alloc, text.as_str())?;
         if fits {
             Ok(Pattern { text, regex })
         } else {
-            Err(PatternFault::TooLarge)
+            Err(Refused::Fault(PatternFault::TooLarge))
         }
     }
 
@@ -81,35 +79,35 @@ fn anchor(alloc: Global, pattern: &str) -> Result<String, AllocError>
 }
 
 // Whether the text, which is a pattern, isn't too large.
-fn fits(alloc: Global, text: &str) -> Result<bool, PatternFault>
+fn fits(alloc: Global, text: &str) -> Result<bool, Refused<PatternFault>>
     ensures ok { OnOk result (IsReadable text.now) }
-    ensures err { IfErr result (λ fault. (fault ≢ PatternFault.TooLarge) × IsRefusalOf text.now fault) }
+    ensures err { IfErr result (IfFault (λ fault. (fault ≢ PatternFault.TooLarge) × IsRefusalOf text.now fault)) }
 {
     match build(alloc, text) {
         Ok(_) => Ok(true),
-        Err(PatternFault::TooLarge) => Ok(false),
-        Err(fault) => Err(fault),
+        Err(Refused::Fault(PatternFault::TooLarge)) => Ok(false),
+        Err(refused) => Err(refused),
     }
 }
 
 // What is built of `\A(?:P)\z`.
-fn build_anchored(alloc: Global, pattern: &str) -> Result<Regex, PatternFault>
+fn build_anchored(alloc: Global, pattern: &str) -> Result<Regex, Refused<PatternFault>>
     ensures ok { IfOk result (λ regex. IsReadable (anchored pattern.now) × IsFoundAs pattern.now regex) }
-    ensures err { IfErr result (IsRefusalOf (anchored pattern.now)) }
+    ensures err { IfErr result (IfFault (IsRefusalOf (anchored pattern.now))) }
 {
     let whole = anchor(alloc, pattern)?;
     build(alloc, whole.as_str())
 }
 
-fn build(alloc: Global, text: &str) -> Result<Regex, PatternFault>
+fn build(alloc: Global, text: &str) -> Result<Regex, Refused<PatternFault>>
     ensures ok { IfOk result (IsBuiltFrom text.now) }
-    ensures err { IfErr result (IsRefusalOf text.now) }
+    ensures err { IfErr result (IfFault (IsRefusalOf text.now)) }
 {
     match Regex::new(alloc, text) {
         Ok(regex) => Ok(regex),
-        Err(regex::Error::Syntax(_)) => Err(PatternFault::Syntax),
-        Err(regex::Error::CompiledTooBig) => Err(PatternFault::TooLarge),
+        Err(regex::Error::Syntax(_)) => Err(Refused::Fault(PatternFault::Syntax)),
+        Err(regex::Error::CompiledTooBig) => Err(Refused::Fault(PatternFault::TooLarge)),
         Err(regex::Error::Internal) => unreachable!(),
-        Err(regex::Error::OutOfMemory) => Err(PatternFault::Memory),
+        Err(regex::Error::OutOfMemory) => Err(Refused::Memory),
     }
 }

@@ -1,5 +1,6 @@
 // Which labels are asked for.
 ghost use Rattle.std.specs.Prelude.{◌≡◌, ◌≤◌, ℕ, Bool, List, IfOk, MatchResult, map, length, true};
+ghost use Rattle.faults.specs.Answers.{IfAnswered, IfFault};
 ghost use Rattle.selector.specs.Grammar.{IsSelectorText};
 ghost use Rattle.selector.specs.Matching.{Matching, matches};
 ghost use Rattle.selector.specs.Building.{IsBuildFault};
@@ -9,7 +10,8 @@ use crate::SelectorFault;
 use crate::inside::read_inside;
 use crate::matchers::{Matcher, build_all};
 use crate::tokens::{skip_space, strip};
-use crate::written::{ReadFault, Written};
+use crate::written::{ReadFault, Written, placed};
+use faults::Refused;
 use profile_model::{LabelSet, ProfileType};
 use std::alloc::{AllocError, Global};
 use std::marker::Model;
@@ -35,19 +37,22 @@ impl Selector {
     ghost use Rattle.selector.specs.Read.{IsReadSelector, AreBuilt};
 
     /// The selector of a text such as `{service_name="shop",env=~"prod.*"}`. The empty text is `{}`.
-    pub fn read(alloc: Global, text: &str) -> Result<Selector, SelectorFault>
-        ensures read { IsReadSelector text.now result }
+    pub fn read(alloc: Global, text: &str) -> Result<Selector, Refused<SelectorFault>>
+        ensures read { IfAnswered (IsReadSelector text.now) result }
     {
         match read_selector(alloc, text) {
             Ok(written) => Selector::build(alloc, written),
-            Err(fault) => Err(fault.placed(text.len())),
+            Err(refused) => Err(placed(refused, text.len())),
         }
     }
 
-    pub(crate) fn build(alloc: Global, written: Vec<Written<'_>>) -> Result<Selector, SelectorFault>
+    pub(crate) fn build(
+        alloc: Global,
+        written: Vec<Written<'_>>,
+    ) -> Result<Selector, Refused<SelectorFault>>
         ensures { MatchResult result
             (λ selector. (selector ≡ map matching_of written.entry.items) × (length selector ≤ 16) × AreBuilt (λ _. true) selector)
-            (λ fault. (built : List ℕ → Bool) × IsBuildFault built (map matching_of written.entry.items) fault) }
+            (IfFault (λ fault. (built : List ℕ → Bool) × IsBuildFault built (map matching_of written.entry.items) fault)) }
     {
         let matchers = build_all(alloc, written)?;
         Ok(Selector { alloc, matchers })
@@ -68,10 +73,10 @@ impl Selector {
 }
 
 // The matchers of a selector, as the text has them.
-fn read_selector(alloc: Global, text: &str) -> Result<Vec<Written<'_>>, ReadFault>
+fn read_selector(alloc: Global, text: &str) -> Result<Vec<Written<'_>>, Refused<ReadFault>>
     ensures { MatchResult result
         (λ matchers. IsSelectorText text.now (map matching_of matchers.items))
-        (IsReadFault AtSelector text.now) }
+        (IfFault (IsReadFault AtSelector text.now)) }
 {
     if text.is_empty() {
         return Ok(Vec::new(alloc));
@@ -79,6 +84,6 @@ fn read_selector(alloc: Global, text: &str) -> Result<Vec<Written<'_>>, ReadFaul
     let start = skip_space(text);
     match strip(start, '{') {
         Some(inside) => read_inside(alloc, inside),
-        None => Err(ReadFault::BreaksOff(start.len())),
+        None => Err(Refused::Fault(ReadFault::BreaksOff(start.len()))),
     }
 }

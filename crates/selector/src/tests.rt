@@ -1,4 +1,5 @@
 use crate::{Query, Selector, SelectorFault};
+use faults::{Place, Refused};
 use profile_model::{LabelSet, Name, ProfileType};
 use std::alloc::Global;
 use std::test::Fail;
@@ -35,7 +36,7 @@ fn tells_x(alloc: Global, text: &str) -> Result<bool, Fail> {
 }
 
 fn is_refused(alloc: Global, text: &str, fault: SelectorFault) -> bool {
-    Selector::read(alloc, text).err() == Some(fault)
+    Selector::read(alloc, text).err() == Some(Refused::Fault(fault))
 }
 
 // 16 matchers, and this end.
@@ -71,14 +72,14 @@ fn is_of_kind(alloc: Global, text: &str, kind: &str) -> Result<bool, Fail> {
 }
 
 fn is_query_refused(alloc: Global, text: &str, fault: SelectorFault) -> bool {
-    Query::read(alloc, text).err() == Some(fault)
+    Query::read(alloc, text).err() == Some(Refused::Fault(fault))
 }
 
 fn shows(
     alloc: Global,
     fault: SelectorFault,
-    code: Option<&str>,
-    place: Option<u64>,
+    code: &str,
+    place: Place,
     text: &str,
 ) -> Result<bool, Fail> {
     let shown = fault.to_string(alloc)?;
@@ -326,35 +327,34 @@ fn faults_have_codes_places_and_texts(rt: HostRuntime) -> Result<(), Fail> {
     for (fault, code, place, text) in [
         (
             SelectorFault::Kind,
-            Some("S1"),
-            None,
+            "S1",
+            Place::Whole,
             "a profile's type has five parts",
         ),
         (
             SelectorFault::Syntax(45),
-            Some("S2"),
-            Some(45),
+            "S2",
+            Place::At(45),
             "no selector goes on as at byte 45",
         ),
         (
             SelectorFault::Pattern(2),
-            Some("S3"),
-            Some(2),
+            "S3",
+            Place::At(2),
             "matcher 2 has no pattern",
         ),
         (
             SelectorFault::TooMany,
-            Some("S4"),
-            None,
+            "S4",
+            Place::Whole,
             "more than 16 matchers",
         ),
         (
             SelectorFault::PatternRefused(3),
-            Some("S5"),
-            Some(3),
+            "S5",
+            Place::At(3),
             "the pattern of matcher 3 is too large",
         ),
-        (SelectorFault::Memory, None, None, "out of memory"),
     ] {
         assert!(rt; shows(alloc, fault, code, place, text)?, "{text}");
     }

@@ -1,11 +1,13 @@
 // The tokens of a selector. Each is read from the front of a rest of the text, which it cuts.
-ghost use Rattle.std.specs.Prelude.{◌≡◌, ◌≢◌, ◌==◌, ◌<◌, ◌++◌, ◌∷◌, ℕ, List, Some, not, is_some, position, IsFalse, MatchResult, MatchOption, string_bytes};
+ghost use Rattle.std.specs.Prelude.{◌≡◌, ◌==◌, ◌<◌, ◌++◌, ◌∷◌, ℕ, List, Some, not, is_some, position, IsFalse, MatchResult, MatchOption, string_bytes};
+ghost use Rattle.faults.specs.Answers.{IfFault};
 ghost use Rattle.selector.specs.Grammar.{IsNameText, IsString, AreWritten, escaped, is_space, is_name_start, is_name_byte, is_plain, operator_text};
 ghost use Rattle.selector.specs.Rests.{AtName, AtOperator, AtNegated, AtString, AtWritten, EndsOperator, IsReadFault};
 ghost use Rattle.selector.specs.Runs.{is_in, begins_with, IsRun};
 
 use crate::Operator;
 use crate::written::ReadFault;
+use faults::Refused;
 use std::alloc::Global;
 
 // The bytes that a run is made of.
@@ -115,22 +117,22 @@ fn read_negated(text: &str) -> Result<(Operator, &str), ReadFault>
 }
 
 // The bytes of a string, which may be written with backslashes.
-pub(crate) fn read_string(alloc: Global, text: &str) -> Result<(String, &str), ReadFault>
+pub(crate) fn read_string(alloc: Global, text: &str) -> Result<(String, &str), Refused<ReadFault>>
     ensures { MatchResult result
         (λ said. (string : List ℕ) × (text.now ≡ string ++ said.1.now) × IsString string (string_bytes said.0))
-        (IsReadFault AtString text.now) }
+        (IfFault (IsReadFault AtString text.now)) }
 {
     match strip(text, '"') {
         Some(inside) => read_written(alloc, inside),
-        None => Err(ReadFault::BreaksOff(text.len())),
+        None => Err(Refused::Fault(ReadFault::BreaksOff(text.len()))),
     }
 }
 
 // The inside of a string and the quote that ends it.
-fn read_written(alloc: Global, text: &str) -> Result<(String, &str), ReadFault>
+fn read_written(alloc: Global, text: &str) -> Result<(String, &str), Refused<ReadFault>>
     ensures { MatchResult result
         (λ said. (inside : List ℕ) × (text.now ≡ inside ++ 34 ∷ said.1.now) × AreWritten inside (string_bytes said.0))
-        (IsReadFault AtWritten text.now) }
+        (IfFault (IsReadFault AtWritten text.now)) }
 {
     let mut value = String::new(alloc);
     let mut rest = text;

@@ -1,10 +1,11 @@
 // A matcher as a text has it, before its pattern is built.
 ghost use Rattle.std.specs.Prelude.{◌≡◌};
-ghost use Rattle.selector.specs.declared.written.ReadFault.TheVariants.{Memory};
+ghost use Rattle.faults.specs.Answers.{IsMapped};
+ghost use Rattle.faults.specs.declared.refused.Refused.TheVariants.{Fault};
 ghost use Rattle.selector.specs.Placed.{placed_at};
 
 use crate::{Operator, SelectorFault};
-use std::alloc::{AllocError, AllocFailed};
+use faults::Refused;
 
 #[derive(Debug, Drop)]
 pub(crate) struct Written<'a> {
@@ -18,33 +19,30 @@ pub(crate) struct Written<'a> {
 pub(crate) enum ReadFault {
     // How many bytes are left from the first on with which no selector goes on.
     BreaksOff(usize),
-    Memory,
 }
 
 impl ReadFault {
     // As a fault of a whole text that ends where the rest does.
-    pub(crate) fn placed(self, length: usize) -> SelectorFault
+    fn placed(self, length: usize) -> SelectorFault
         ensures { result ≡ placed_at length self }
     {
         match self {
             ReadFault::BreaksOff(left) => SelectorFault::Syntax(length.saturating_sub(left)),
-            ReadFault::Memory => SelectorFault::Memory,
         }
     }
 }
 
-impl From<AllocError> for ReadFault {
-    ghost from_gives = { λ _ fault. fault ≡ Memory };
+impl From<ReadFault> for Refused<ReadFault> {
+    ghost from_gives = { λ fault refused. refused ≡ Fault fault };
 
-    fn from(_error: AllocError) -> ReadFault {
-        ReadFault::Memory
+    fn from(fault: ReadFault) -> Refused<ReadFault> {
+        Refused::Fault(fault)
     }
 }
 
-impl<T: Drop> From<AllocFailed<T>> for ReadFault {
-    ghost from_gives = { λ _ fault. fault ≡ Memory };
-
-    fn from(_error: AllocFailed<T>) -> ReadFault {
-        ReadFault::Memory
-    }
+// Why a whole text of this length isn't read, where the rest that isn't read ends where the text does.
+pub(crate) fn placed(refused: Refused<ReadFault>, length: usize) -> Refused<SelectorFault>
+    ensures { IsMapped (λ fault placed. placed ≡ placed_at length fault) refused result }
+{
+    refused.map(|fault| fault.placed(length))
 }

@@ -3,7 +3,7 @@ use Rattle.std.proofs.lemmas.Result.{err_from_is_err_and}
 use Rattle.selector.specs.Grammar.{IsInside, IsSpace}
 use Rattle.selector.specs.Rests.{AtInside, AtMore, AtName, Spaced, matching_of}
 use Rattle.selector.proofs.InsideLemmas.{inside_spaced, broken_inside_spaced, broken_close, closed, broken_matcher, broken_after_matcher, broken_separated, inside_more, gathered}
-use Rattle.selector.proofs.WrittenLemmas.{read_fault}
+use Rattle.selector.proofs.WrittenLemmas.{read_fault, read_refused}
 use Rattle.selector.proofs.inside.read_inside.Goals as goal
 
 pub loop-end-init : goal.loop-end-init
@@ -38,7 +38,7 @@ returns-in_err-matcher c =
     let loop = c.loop-end.invariant in
     let p = err_from_is_err_and c.from_residual-in_err-matcher.result c.from_residual-in_err-matcher.ensures.1 in
     rw (p.1, p.2)
-    (read_fault AtInside (Spaced AtName) c.args.text.now c.loop-end.rest.now
+    (read_refused AtInside (Spaced AtName) c.args.text.now c.loop-end.rest.now
     (λ left broken. loop.breaks left (broken_matcher c.loop-end.rest.now left loop.settled c.in_default.ensures broken)) c.in_err-matcher.field-0.0 c.in_err-matcher.ensures)
 
 pub returns-in_err-rest : goal.returns-in_err-rest

@@ -3,7 +3,7 @@ use Rattle.std.proofs.lemmas.Result.{err_from_is_err_and}
 use Rattle.selector.specs.Rests.{AtName, AtOperator, AtString, Spaced}
 use Rattle.selector.proofs.MatcherLemmas.{matcher_of}
 use Rattle.selector.proofs.TokenLemmas.{broken_before_name, broken_after_name, broken_before_operator, broken_after_operator, broken_before_string}
-use Rattle.selector.proofs.WrittenLemmas.{read_fault}
+use Rattle.selector.proofs.WrittenLemmas.{read_fault, read_refused}
 use Rattle.selector.proofs.matcher.read_matcher.Goals as goal
 
 pub returns-in_err-name : goal.returns-in_err-name
@@ -45,7 +45,7 @@ returns-in_err-value c =
     let start3 = c.skip_space-3.result.now in
     let p = err_from_is_err_and c.from_residual-in_err-value.result c.from_residual-in_err-value.ensures.1 in
     rw (p.1, p.2)
-    (read_fault (Spaced AtName) AtString c.args.text.now start3
+    (read_refused (Spaced AtName) AtString c.args.text.now start3
     (λ left broken.
     broken_before_name c.args.text.now space.0 start left space.1
     (broken_after_name start name c.in_ok-name.rest.now left named.1 named.0

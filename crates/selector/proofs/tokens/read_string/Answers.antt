@@ -1,7 +1,7 @@
 use Rattle.std.proofs.lemmas.Result.{MatchResult-weaker}
 use Rattle.std.proofs.Common.{string_bytes}
 use Rattle.selector.specs.Rests.{AtWritten, AtString}
-use Rattle.selector.proofs.WrittenLemmas.{no_string, string_of, read_fault, broken_after_quote}
+use Rattle.selector.proofs.WrittenLemmas.{no_string, string_of, read_refused, broken_after_quote}
 use Rattle.selector.proofs.tokens.read_string.Goals as goal
 
 pub returns-in-None : goal.returns-in-None
@@ -12,4 +12,4 @@ returns-in-Some c =
     let inside = c.in-Some.inside.now in
     MatchResult-weaker c.read_written.result c.read_written.ensures
     (λ said h. string_of c.args.text.now h.0 inside said.1.now (string_bytes said.0) c.in-Some.ensures h.1 h.2)
-    (read_fault AtString AtWritten c.args.text.now inside (λ left broken. broken_after_quote c.args.text.now inside left c.in-Some.ensures broken))
+    (read_refused AtString AtWritten c.args.text.now inside (λ left broken. broken_after_quote c.args.text.now inside left c.in-Some.ensures broken))

@@ -2,19 +2,16 @@ use Rattle.std.proofs.Common.{◌≡◌, ◌∙◌, true, sym, ap, subst, length
 use Rattle.profile_model.specs.Kinds.{parts_of}
 use Rattle.profile_model.specs.ReadKinds.{parts_in}
 use Rattle.selector.specs.Grammar.{IsQueryOf, kind_of}
-use Rattle.selector.proofs.SelectorLemmas.{query_fault}
+use Rattle.selector.proofs.SelectorLemmas.{placed_query}
 use Rattle.selector.proofs.query.Query.read.Goals as goal
 
-pub returns-in-Err-NotFiveParts : goal.returns-in-Err-NotFiveParts
-returns-in-Err-NotFiveParts c = record { read = (λ _. true, search rules) }
-
-pub returns-in-Err-Memory : goal.returns-in-Err-Memory
-returns-in-Err-Memory c = record { read = (λ _. true, tt) }
+pub returns-in-Err-Fault-NotFiveParts : goal.returns-in-Err-Fault-NotFiveParts
+returns-in-Err-Fault-NotFiveParts c = record { read = (λ _. true, search rules) }
 
 pub returns-in-Err : goal.returns-in-Err
 returns-in-Err c =
     let five = ap (λ text. length (parts_of text)) (sym c.kind_text.ensures) ∙ ap length c.in-Ok.ensures.read in
-    record { read = rw c.placed.ensures (λ _. true, query_fault (λ _. true) c.args.text.now five c.in-Err.fault c.in-Err.ensures) }
+    record { read = placed_query c.args.text.now five c.in-Err.refused c.placed.result c.placed.ensures c.in-Err.ensures }
 
 pub returns : goal.returns
 returns c =

@@ -1,11 +1,10 @@
 // What is listed of label sets.
-ghost use Rattle.std.specs.Prelude.{◌≡◌, IfOk, OnOk, fold, map, nat_eq};
+ghost use Rattle.std.specs.Prelude.{◌≡◌, IfOk, OnOk, fold, map};
 ghost use Rattle.std.specs.BTreeSet.{insert_key};
-ghost use Rattle.std.specs.List.{list_any};
 ghost use Rattle.std.specs.Map.{keys_of};
-ghost use Rattle.std.specs.Cmp.Lexicographic.{pointwise};
 ghost use Rattle.profile_model.specs.Stacks.{name_cmp};
 ghost use Rattle.label_queries.specs.Labels.{cut_to, is_kept, label_names_of, label_values_of, series_of};
+ghost use Rattle.label_queries.specs.Ordered.{ascending};
 
 use profile_model::{LabelSet, Name};
 use std::alloc::{AllocError, Global};
@@ -54,20 +53,33 @@ pub(crate) fn series_in(
     ensures { IfOk result (λ series. map (λ set. set.items) series.items
         ≡ series_of (map (λ name. name.now) names.now) sets.now.keys) }
 {
+    let wanted = in_order(alloc, names)?;
     let mut series = BTreeSet::new(alloc);
     for set in sets {
-        series.insert(cut_to(alloc, set.pairs(), names)?)?;
+        series.insert(cut_to(alloc, set.pairs(), &wanted)?)?;
     }
     series.into_iter().collect(alloc)
+}
+
+// Names are looked up for every label of every set, so they are put in order once.
+fn in_order<'n>(alloc: Global, names: &[&'n str]) -> Result<BTreeSet<&'n str>, AllocError>
+    ensures { IfOk result (λ ordered. map (λ name. name.now) ordered.keys
+        ≡ ascending name_cmp (map (λ name. name.now) names.now)) }
+{
+    let mut ordered = BTreeSet::new(alloc);
+    for name in names {
+        ordered.insert(*name)?;
+    }
+    Ok(ordered)
 }
 
 // The labels with these names, or all where there are no names.
 fn cut_to(
     alloc: Global,
     labels: &[(Name, Name)],
-    names: &[&str],
+    names: &BTreeSet<&str>,
 ) -> Result<Vec<(Name, Name)>, AllocError>
-    ensures { IfOk result (λ kept. kept.items ≡ cut_to (map (λ name. name.now) names.now) labels.now) }
+    ensures { IfOk result (λ kept. kept.items ≡ cut_to (map (λ name. name.now) names.now.keys) labels.now) }
 {
     let mut kept = Vec::new(alloc);
     for (name, value) in labels {
@@ -78,20 +90,8 @@ fn cut_to(
     Ok(kept)
 }
 
-fn is_kept(names: &[&str], name: &Name) -> bool
-    ensures { result ≡ is_kept (map (λ other. other.now) names.now) name.now }
+fn is_kept(names: &BTreeSet<&str>, name: &Name) -> bool
+    ensures { result ≡ is_kept (map (λ other. other.now) names.now.keys) name.now }
 {
-    names.is_empty() || is_among(names, name)
-}
-
-fn is_among(names: &[&str], name: &Name) -> bool
-    ensures { result ≡ list_any (λ other. pointwise nat_eq name.now other.now) names.now }
-{
-    names.iter().any(|other| is_name(name, other))
-}
-
-fn is_name(name: &Name, text: &str) -> bool
-    ensures { result ≡ pointwise nat_eq name.now text.now }
-{
-    name.as_str() == text
+    names.is_empty() || names.contains(name.as_str())
 }

@@ -5,3 +5,4 @@ pub mod KindLemmas
 pub mod BreakLemmas
 pub mod LabelLemmas
 pub mod ReadLabelLemmas
+pub mod SeenLemmas

@@ -16,6 +16,7 @@ pub mod CleanedTexts
 pub mod LabelSets
 pub mod LabelPlaces
 pub mod LabelOrder
+pub mod SeenNames
 pub mod ReadLabels
 pub mod LabelFaults
 pub mod Series

@@ -14,6 +14,7 @@ ghost use Rattle.faults.specs.Places.{numbers_of};
 ghost use Rattle.faults.specs.declared.refused.Refused.TheVariants.{Memory};
 
 use crate::Name;
+use crate::seen::Seen;
 use faults::{Place, Refused};
 use std::alloc::{AllocError, Global};
 use std::cmp::Ordering;
@@ -118,8 +119,8 @@ impl LabelSet {
         Ok(LabelSet { pairs })
     }
 
-    /// The labels that these pairs name, without those whose value is empty. Pairs that break a rule are
-    /// refused before memory is asked for.
+    /// The labels that these pairs name, without those whose value is empty. Want of memory comes only of pairs
+    /// that break no rule.
     pub fn from_pairs(
         alloc: Global,
         pairs: &[(Name, Name)],
@@ -129,7 +130,7 @@ impl LabelSet {
         ensures few { IfOk result (λ labels. length labels ≤ most_labels) }
         ensures profile { IfOk result AreProfileLabels }
     {
-        if let Some(fault) = first_fault(pairs) {
+        if let Some(fault) = first_fault(alloc, pairs) {
             return Err(Refused::Fault(fault));
         }
         if count_with_value(pairs) > MAX_LABELS {
@@ -216,9 +217,10 @@ fn put_pair(labels: &mut LabelSet, name: &Name, value: &Name) -> Result<(), Allo
 }
 
 // The first pair that breaks a rule, if there is one.
-fn first_fault(pairs: &[(Name, Name)]) -> Option<LabelFault>
+fn first_fault(alloc: Global, pairs: &[(Name, Name)]) -> Option<LabelFault>
     ensures { IsPairFault pairs.now result }
 {
+    let mut seen = Seen::none(alloc);
     for (at, pair) in pairs.iter().enumerate() {
         let name = pair.0.as_bytes();
         if !is_label_name(name) {
@@ -227,14 +229,14 @@ fn first_fault(pairs: &[(Name, Name)]) -> Option<LabelFault>
         if pair.1.len() > MAX_VALUE_BYTES {
             return Some(LabelFault::BadValue(at));
         }
-        if has_name(&pairs[..at], name) {
+        if seen.repeats(&pairs[..at], name) {
             return Some(LabelFault::Repeated(at));
         }
     }
     None
 }
 
-fn has_name(pairs: &[(Name, Name)], name: &[u8]) -> bool
+pub(crate) fn has_name(pairs: &[(Name, Name)], name: &[u8]) -> bool
     ensures { result ≡ has_label pairs.now name.now }
 {
     pairs.iter().any(|pair| has_key(pair, name))

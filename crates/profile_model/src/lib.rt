@@ -8,6 +8,7 @@ mod name;
 mod part_ask;
 mod profile;
 mod push;
+mod seen;
 mod series;
 mod stack;
 mod sums;

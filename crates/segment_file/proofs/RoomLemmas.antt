@@ -20,6 +20,7 @@ use Rattle.profile_model.specs.declared.push.Push.{Push}
 use Rattle.segment_file.specs.Fields.{Field, Fit, each_of, listed, number, text_of, unless}
 use Rattle.segment_file.specs.declared.fault.ObjectRule.TheVariants.{Content}
 use Rattle.segment_file.specs.Files.{FileProfile, FilePush, file_fields, frame_fields, label_fields, labels_fields, part_field, profile_fields, push_fields, sample_fields, stack_fields, value_field}
+use Rattle.segment_file.specs.Laws.{IsLight}
 use Rattle.segment_file.specs.Objects.{IsProfile, IsPush, file_of, profile_said, push_said}
 use Rattle.segment_file.proofs.TenantLemmas.{tenant_few}
 
@@ -120,9 +121,6 @@ push_room push is light =
     (room_cons (number 4 (length profiles) (unless few Content)) (each_of (λ before profile. profile_fields profile) [] profiles)
     (four_fit (length profiles) (omega (arith, is.few, length-map push.profiles profile_said)))
     (profiles_room [] push.profiles (recursion_from_All IsProfile push.profiles is.each) (omega (arith, light))))
-
-abbrev pub IsLight : Push → Type 0
-IsLight push = push_weight push ≤ 268435456
 
 pushes_room : (before : List FilePush) (pushes : List Push) → AllByRecursion IsPush pushes → AllByRecursion IsLight pushes
     → Fit (each_of (λ before push. push_fields push) before (map push_said pushes))

@@ -39,9 +39,12 @@ pub record IsSameFault (rule other : ObjectRule) (at place : ℕ) : Type 0 where
 abbrev pub OneFault : Type 0
 OneFault = (bytes : List ℕ) (rule other : ObjectRule) (at place : ℕ) → IsBroken bytes rule at → IsBroken bytes other place → IsSameFault rule other at place
 
--- Pushes have room for their numbers and lengths where each weighs at most 268435456 and keeps the rules of its types,
--- and there are fewer than 2^64 up to the last of them.
+-- the push is within its limit of weight
+abbrev pub IsLight : Push → Type 0
+IsLight push = push_weight push ≤ 268435456
+
+-- Light pushes that keep the rules of their types have room for their numbers and lengths, where there are fewer than
+-- 2^64 up to the last of them.
 abbrev pub LightPushesHaveRoom : Type 0
 LightPushesHaveRoom =
-    (lo : ℕ) (pushes : List Push) → lo + length pushes < 2 ^ 64 → All IsPush pushes → All (λ push. push_weight push ≤ 268435456) pushes
-    → Fit (file_fields (file_of lo pushes))
+    (lo : ℕ) (pushes : List Push) → lo + length pushes < 2 ^ 64 → All IsPush pushes → All IsLight pushes → Fit (file_fields (file_of lo pushes))

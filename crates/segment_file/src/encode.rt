@@ -34,7 +34,7 @@ impl Object {
     }
 }
 
-fn put_pushes(out: &mut Vec<u8>, pushes: &[Push]) -> Result<(), AllocError>
+pub(crate) fn put_pushes(out: &mut Vec<u8>, pushes: &[Push]) -> Result<(), AllocError>
     ensures bytes { OnOk result (out.new.items ≡ out.old.items ++ flat_map push_bytes pushes.now) }
     ensures rules { OnOk result (All IsPush pushes.now) }
 {

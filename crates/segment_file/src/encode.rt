@@ -18,8 +18,11 @@ use crate::length::pushes_length;
 use profile_model::{LabelSet, Name, Profile, ProfileType, Push, Stack, StackSums};
 use std::alloc::{AllocError, Global};
 
+// The first four bytes of each object.
+const MARK: &[u8; 4] = b"PYO0";
+
 impl Object {
-    /// The object's one spelling.
+    /// The object's one spelling. Its length is summed up first, so memory is asked for once.
     pub fn encode(&self, alloc: Global) -> Result<Vec<u8>, AllocError>
         ensures { IfOk result (λ bytes. Spells bytes.items self.now) }
     {
@@ -44,10 +47,7 @@ pub(crate) fn put_pushes(out: &mut Vec<u8>, pushes: &[Push]) -> Result<(), Alloc
     Ok(())
 }
 
-/// The first four bytes of each object.
-const MARK: &[u8; 4] = b"PYO0";
-
-// In four bytes, in which the counts and lengths of an object have room.
+// In four bytes: an object's counts and lengths have room in them.
 fn put_count(out: &mut Vec<u8>, count: usize) -> Result<(), AllocError>
     ensures { OnOk result (out.new.items ≡ out.old.items ++ bytes_high_first 4 count) }
 {

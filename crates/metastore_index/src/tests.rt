@@ -101,3 +101,117 @@ fn after_room_an_entry_takes_no_memory(rt: HostRuntime) -> Result<(), Fail> {
     assert_eq!(rt; index.apply(entry(8, 9, 9, 0)), Ok(()));
     Ok(())
 }
+
+// Whether eight entries refuse this one and stay as they are.
+fn is_refused(alloc: Global, entry: Entry) -> Result<bool, Fail> {
+    let mut index = eight(alloc)?;
+    let refused = index.apply(entry) == Err(ApplyFault::NotARun);
+    Ok(refused && index.entries().len() == 8 && index.next_id() == 9)
+}
+
+#[test]
+fn an_entry_without_a_place_is_refused(rt: HostRuntime) -> Result<(), Fail> {
+    let alloc = rt.alloc();
+    // A gap, a level too high, an id used again, an id of 2^63, a run that begins behind the oldest.
+    for (lo, hi, id, level) in [
+        (9, 10, 9, 0),
+        (0, 8, 9, 2),
+        (8, 9, 8, 0),
+        (8, 9, 1 << 63, 0),
+        (4, 8, 9, 1),
+    ] {
+        assert!(rt;
+            is_refused(alloc, entry(lo, hi, id, level))?,
+            "from {lo}, {id}"
+        );
+    }
+    Ok(())
+}
+
+// What a list says in place of an index: from where to where, and the level.
+type Run = (u64, u64, u8);
+
+// Puts a run in the place of those within it, or behind all.
+fn put(runs: &mut Vec<Run>, lo: u64, hi: u64, level: u8) -> Result<(), Fail> {
+    runs.retain(|run| run.1 <= lo || hi <= run.0);
+    let at = runs.iter().filter(|run| run.1 <= lo).count();
+    Ok(runs.insert(at, (lo, hi, level))?)
+}
+
+// From where to where the first four runs of the level go, where there are eight.
+fn first_four(runs: &[Run], level: u8) -> Option<(u64, u64)> {
+    let mut count: usize = 0;
+    let mut lo = 0;
+    let mut hi = 0;
+    for run in runs {
+        if run.2 == level {
+            if count == 0 {
+                lo = run.0;
+            }
+            if count == 3 {
+                hi = run.1;
+            }
+            count = count.saturating_add(1);
+        }
+    }
+    if count < 8 { None } else { Some((lo, hi)) }
+}
+
+fn run_of(entry: &Entry) -> Run {
+    (entry.lo, entry.hi, entry.level)
+}
+
+fn are_alike(entries: &[Entry], runs: &[Run]) -> bool {
+    entries.iter().map(run_of).eq(runs.iter().copied())
+}
+
+// Whether an index and a list are alike once both took the entry.
+fn both_take(index: &mut Index, runs: &mut Vec<Run>, run: Run) -> Result<bool, Fail> {
+    let (lo, hi, level) = run;
+    if lo >= hi || level > MAX_LEVEL {
+        return Ok(false);
+    }
+    index.apply(entry(lo, hi, index.next_id(), level))?;
+    put(runs, lo, hi, level)?;
+    Ok(are_alike(index.entries(), runs))
+}
+
+// Whether they are alike after all replacements that are due, level by level.
+fn both_merge(index: &mut Index, runs: &mut Vec<Run>) -> Result<bool, Fail> {
+    for level in 0..MAX_LEVEL {
+        if let Some((lo, hi)) = first_four(runs, level) {
+            let found = index.run(lo, hi) == Some(level);
+            if !both_take(index, runs, (lo, hi, level + 1))? || !found {
+                return Ok(false);
+            }
+        }
+    }
+    Ok(true)
+}
+
+fn covers_alike(index: &Index, runs: &[Run], at: u64) -> bool {
+    let cover = index.cover(at).map(|entry| run_of(&entry));
+    let run = runs.iter().find(|run| run.0 <= at && at < run.1).copied();
+    cover == run
+}
+
+fn are_alike_throughout(alloc: Global, pushes: u64) -> Result<bool, Fail> {
+    let mut index = Index::new(alloc);
+    let mut runs = Vec::new(alloc);
+    for number in 0..pushes {
+        if !both_take(&mut index, &mut runs, (number, number + 1, 0))? {
+            return Ok(false);
+        }
+        if !both_merge(&mut index, &mut runs)? {
+            return Ok(false);
+        }
+    }
+    let highest = runs.first().is_some_and(|run| run.2 == MAX_LEVEL);
+    Ok(highest && (0..=pushes).all(|at| covers_alike(&index, &runs, at)))
+}
+
+#[test]
+fn an_index_of_a_thousand_pushes_is_as_a_list_has_it(rt: HostRuntime) -> Result<(), Fail> {
+    assert!(rt; are_alike_throughout(rt.alloc(), 1000)?);
+    Ok(())
+}

@@ -1,5 +1,5 @@
 -- The rows of pushes, taken one after another.
-use Rattle.std.proofs.Common.{◌≡◌, ℕ, ◌+◌, List, [], ◌∷◌, ◌++◌, map, filter, refl, sym, ap, ◌∙◌}
+use Rattle.std.proofs.Common.{ℕ, List, map, filter}
 use Rattle.std.specs.List.{enumerate_from, flat_map}
 use Rattle.profile_model.specs.declared.part_ask.PartAsk.{PartAsk}
 use Rattle.profile_model.specs.declared.profile.Profile.{Profile}

@@ -2,7 +2,6 @@
 use Rattle.std.specs.Prelude.{◌&&◌, ℕ, Bool, List, map, filter, nat_eq, nat_le, nat_lt}
 use Rattle.std.specs.List.{enumerate_from, flat_map}
 use Rattle.std.specs.Cmp.Lexicographic.{pointwise}
-use Rattle.profile_model.specs.declared.profile.Profile.{Profile}
 use Rattle.profile_model.specs.declared.part_ask.PartAsk.{PartAsk}
 use Rattle.profile_model.specs.declared.push.Push.{Push}
 use Rattle.segment_file.specs.declared.part.Row.{Row}

@@ -1,5 +1,5 @@
 // The bytes of an object.
-ghost use Rattle.std.specs.Prelude.{◌≡◌, ◌++◌, ◌≤◌, None, length, IfOk, OnOk};
+ghost use Rattle.std.specs.Prelude.{◌≡◌, ◌++◌, IfOk, OnOk};
 ghost use Rattle.std.specs.Int.{bytes_high_first};
 ghost use Rattle.std.specs.List.{All, flat_map};
 ghost use Rattle.std.specs.Map.{keys_of, values_of};
@@ -8,10 +8,9 @@ ghost use Rattle.profile_model.specs.LabelSets.{AreLabels};
 ghost use Rattle.profile_model.specs.ReadKinds.{parts_in};
 ghost use Rattle.profile_model.specs.Stacks.{IsStack};
 ghost use Rattle.profile_model.specs.Sums.{AreSums};
-ghost use Rattle.profile_model.specs.TenantPlaces.{wrong_place};
 ghost use Rattle.segment_file.specs.Bytes.{kind_bytes, label_bytes, labels_bytes, profile_bytes, profiles_bytes, push_bytes, sample_bytes, stack_bytes, text_bytes, values_bytes};
 ghost use Rattle.segment_file.specs.Decoded.{Spells};
-ghost use Rattle.segment_file.specs.Objects.{IsProfile, IsPush, IsWritten};
+ghost use Rattle.segment_file.specs.Objects.{IsProfile, IsPush};
 
 use crate::Object;
 use crate::length::pushes_length;

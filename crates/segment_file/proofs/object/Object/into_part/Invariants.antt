@@ -1,6 +1,5 @@
-use Rattle.std.proofs.Common.{◌≡◌, ◌++◌, ◌+◌, ◌<◌, ◌^◌, filter, length}
+use Rattle.std.proofs.Common.{◌≡◌, ◌++◌, ◌+◌, ◌<◌, ◌^◌, length}
 use Rattle.std.specs.Vec.Iter.{into_iter_items}
-use Rattle.segment_file.specs.Parts.{is_within, part_of}
 use Rattle.segment_file.proofs.PartLemmas.{found_in}
 use Rattle.segment_file.proofs.object.Object.into_part.Given as goal
 

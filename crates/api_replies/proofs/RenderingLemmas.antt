@@ -3,12 +3,12 @@ use Rattle.std.proofs.Common.{◌≡◌, ℕ, List, [], ◌∷◌, Bool, true, f
 use Rattle.std.specs.Prelude.{◌&&◌, filter}
 use Rattle.std.specs.List.{flat_map}
 use Rattle.std.proofs.lemmas.List.{take_all}
-use Rattle.profile_model.specs.History.{pushes_of, sums_of_rows}
+use Rattle.push_history.specs.History.{pushes_of, sums_of_rows}
 use Rattle.profile_model.specs.declared.profile.Profile.{Profile}
 use Rattle.profile_model.specs.declared.push.Push.{Push}
 use Rattle.api_replies.specs.Rendering.{is_wanted, wanted_samples, with_samples}
 use Rattle.api_replies.specs.Replies.{asked_rows, is_matched}
-use Rattle.api_replies.specs.declared.ask.RenderAsk.{RenderAsk}
+use Rattle.request_meaning.specs.declared.ask.RenderAsk.{RenderAsk}
 
 -- all profiles of a tenant's pushes
 abbrev pub profiles_in : List Push → List ℕ → List Profile
@@ -24,10 +24,10 @@ filter-filter {X} p q (x ∷ xs) = by (p x) (filter-filter p q xs)
     by false later = later
 
 -- the sums of an answer are those of all the tenant's profiles that it wants
-pub sums_are : (history : List Push) (ask : RenderAsk) → sums_of_rows (asked_rows history ask) ≡ with_samples [] (wanted_samples ask (profiles_in history ask.tenant))
+pub sums_are : (history : List Push) (ask : RenderAsk) → sums_of_rows (asked_rows history ask) ≡ with_samples [] (wanted_samples ask (profiles_in history ask.part.tenant))
 sums_are history ask =
-    let pushes = pushes_of history ask.tenant in
+    let pushes = pushes_of history ask.part.tenant in
     let whole : take (length pushes) pushes ≡ pushes = take_all (length pushes) pushes (omega arith) in
-    let rows : asked_rows history ask ≡ filter (is_wanted ask) (profiles_in history ask.tenant) =
-    rw whole (filter-filter _ (is_matched ask) (profiles_in history ask.tenant)) in
+    let rows : asked_rows history ask ≡ filter (is_wanted ask) (profiles_in history ask.part.tenant) =
+    rw whole (filter-filter _ (is_matched ask) (profiles_in history ask.part.tenant)) in
     ap sums_of_rows rows

@@ -3,24 +3,25 @@ use Rattle.std.proofs.Common.{◌≡◌, ◌≢◌, ◌∙◌, ℕ, Bool, true, 
 use Rattle.std.specs.Prelude.{filter, Option, Some, None}
 use Rattle.http_session.specs.Asked.{Asked}
 use Rattle.http_session.specs.declared.reply.Reply.{Reply}
-use Rattle.http_session.specs.declared.reply.Status.{Status}
 use Rattle.http_session.specs.declared.reply.Status.TheVariants.{Ok}
-use Rattle.ingest.specs.Faults as ingested
-use Rattle.json_push.specs.Faults as pushed
-use Rattle.profile_model.specs.History.{front_of, pushes_of}
+use Rattle.push_history.specs.History.{front_of, pushes_of}
 use Rattle.profile_model.specs.declared.push.Push.{Push}
-use Rattle.api_replies.specs.Facts.{Facts}
-use Rattle.api_replies.specs.Forms.{tenant_of}
-use Rattle.api_replies.specs.Meanings.{IsAsk, IsWrite}
-use Rattle.api_replies.specs.Refusals.{code_of, ingest_status, place_of, push_status, reply_for_reading, reply_for_refusal}
+use Rattle.request_meaning.specs.Facts.{Facts}
+use Rattle.request_meaning.specs.Forms.{route_of, tenant_of}
+use Rattle.routes.specs.declared.route.Route.{Route}
+use Rattle.routes.specs.declared.route.Route.TheVariants as route
+use Rattle.request_meaning.specs.declared.ask.LabelQuery.{LabelQuery}
+use Rattle.request_meaning.specs.declared.ask.LabelQuery.TheVariants as label
+use Rattle.request_meaning.specs.Meanings.{IsAsk, IsWrite, Reaches}
+use Rattle.request_meaning.specs.LabelAsks.{method_of}
+use Rattle.api_replies.specs.Refusals.{reply_for_refusal}
 use Rattle.api_replies.specs.Replies.{IsExcused, IsReply, answer_to}
-use Rattle.api_replies.specs.declared.ask.Ask.{Ask}
-use Rattle.api_replies.specs.declared.ask.Ask.TheVariants.{Render, Labels}
-use Rattle.api_replies.specs.declared.form.PushForm.{PushForm}
-use Rattle.api_replies.specs.declared.form.PushForm.TheVariants as written
-use Rattle.api_replies.specs.declared.refusal.Refusal.{Refusal}
-use Rattle.api_replies.specs.declared.refusal.Refusal.TheVariants as refusal
-use Rattle.api_replies.proofs.StatusLemmas.{ingest_blames, push_blames}
+use Rattle.request_meaning.specs.declared.ask.Ask.{Ask}
+use Rattle.request_meaning.specs.declared.ask.Ask.TheVariants.{Render, Labels}
+use Rattle.request_meaning.specs.declared.form.PushForm.{PushForm}
+use Rattle.request_meaning.specs.declared.form.PushForm.TheVariants as written
+use Rattle.request_meaning.specs.declared.refusal.Refusal.{Refusal}
+use Rattle.api_replies.proofs.StatusLemmas.{refusal_blames}
 
 -- ---- a tenant's own pushes
 
@@ -40,8 +41,8 @@ own_again history tenant = filter-again _ history
 -- ---- who asks and who writes
 
 abbrev pub asker : Ask → List ℕ
-asker (Render what) = what.tenant
-asker (Labels what) = what.tenant
+asker (Render what) = what.part.tenant
+asker (Labels what) = what.part.tenant
 
 pub asker_is_named : (facts : Facts) (asked : Asked) (what : Ask) → IsAsk facts asked what → tenant_of facts asked ≡ Some (asker what)
 asker_is_named facts asked (Render what) asks = asks.0.named
@@ -51,12 +52,30 @@ pub writer_is_named : (facts : Facts) (asked : Asked) (form : PushForm) (push : 
 writer_is_named facts asked written.Ingest push write = write.0.named
 writer_is_named facts asked written.Json push write = write.0.named
 
+abbrev route_of_form : PushForm → Route
+route_of_form written.Ingest = route.Ingest
+route_of_form written.Json = route.Push
+
 -- a query is no write
+other_route : (query : LabelQuery) (form : PushForm) → route_of (method_of query) ≢ route_of_form form
+other_route label.Names written.Ingest is = cc
+other_route label.Names written.Json is = cc
+other_route (label.Values name) written.Ingest is = cc
+other_route (label.Values name) written.Json is = cc
+other_route (label.Series names) written.Ingest is = cc
+other_route (label.Series names) written.Json is = cc
+
+one_route : (facts : Facts) (asked : Asked) (one other : Route) (tenant another : List ℕ) → Reaches facts asked one tenant → Reaches facts asked other another → one ≡ other
+one_route facts asked one other tenant another reach came = some_same (sym reach.route_is ∙ came.route_is)
+  where
+    some_same : ◌≡◌ {A = Option Route} (Some one) (Some other) → one ≡ other
+    some_same same = cc
+
 asks_no_write : (facts : Facts) (asked : Asked) (what : Ask) (form : PushForm) (push : Push) → IsAsk facts asked what → IsWrite facts asked form push → ⊥
-asks_no_write facts asked (Render what) written.Ingest push asks write = let query = asks.0.task_is in let task = write.0.task_is in cc
-asks_no_write facts asked (Render what) written.Json push asks write = let query = asks.0.task_is in let task = write.0.task_is in cc
-asks_no_write facts asked (Labels what) written.Ingest push asks write = let query = asks.0.task_is in let task = write.0.task_is in cc
-asks_no_write facts asked (Labels what) written.Json push asks write = let query = asks.0.task_is in let task = write.0.task_is in cc
+asks_no_write facts asked (Render what) written.Ingest push asks write = let same = one_route facts asked _ _ _ _ asks.0 write.0 in cc
+asks_no_write facts asked (Render what) written.Json push asks write = let same = one_route facts asked _ _ _ _ asks.0 write.0 in cc
+asks_no_write facts asked (Labels what) written.Ingest push asks write = other_route what.query written.Ingest (one_route facts asked _ _ _ _ asks.0 write.0)
+asks_no_write facts asked (Labels what) written.Json push asks write = other_route what.query written.Json (one_route facts asked _ _ _ _ asks.0 write.0)
 
 -- ---- queries
 
@@ -85,15 +104,8 @@ reply_alike facts asked history other reply same (inr (what, asks, is)) =
 abbrev pub RefusesPlainly : Reply → Type 0
 RefusesPlainly reply = (reply.front ≡ None) × (reply.status ≢ Ok)
 
-fault_refuses : (with : Status) (code : Option (List ℕ)) (place : List ℕ) (now : ℕ) (close : Bool) → with ≢ Ok → RefusesPlainly (reply_for_reading with code place now close)
-fault_refuses with None place now close wrong = (refl, λ is. cc)
-fault_refuses with (Some code) place now close wrong = (refl, wrong)
-
 refusal_refuses : (wrong : Refusal) (now : ℕ) (close : Bool) → RefusesPlainly (reply_for_refusal wrong now close)
-refusal_refuses (refusal.Ingest fault) now close = fault_refuses (ingest_status fault) (ingested.code_of fault) (ingested.place_of fault) now close (ingest_blames fault).0
-refusal_refuses (refusal.Push fault) now close = fault_refuses (push_status fault) (pushed.code_of fault) (pushed.place_of fault) now close (push_blames fault).0
-refusal_refuses (refusal.Selector fault) now close = fault_refuses _ (code_of (refusal.Selector fault)) (place_of (refusal.Selector fault)) now close (λ is. cc)
-refusal_refuses wrong now close = (refl, λ is. cc)
+refusal_refuses wrong now close = (refl, (refusal_blames wrong).0)
 
 -- nor does what comes in place of a reply
 pub excused_refuses : (facts : Facts) (asked : Asked) (reply : Reply) → IsExcused facts asked reply → RefusesPlainly reply

@@ -10,8 +10,11 @@ use Rattle.json_push.specs.declared.fault.PushFault.{PushFault}
 use Rattle.json_push.specs.declared.fault.PushFault.TheVariants as push
 use Rattle.pprof_codec.specs.declared.fault.PprofFault.{PprofFault}
 use Rattle.pprof_codec.specs.declared.fault.PprofFault.TheVariants as pprof
-use Rattle.api_replies.specs.Refusals.{folded_status, ingest_status, pprof_status, push_status}
+use Rattle.request_meaning.specs.declared.refusal.Refusal.{Refusal}
+use Rattle.request_meaning.specs.declared.refusal.Refusal.TheVariants as refusal
+use Rattle.api_replies.specs.Refusals.{folded_status, ingest_status, pprof_status, push_status, status_of}
 
+-- neither 200 nor 500
 abbrev pub Blames : Status → Type 0
 Blames status = (status ≢ Ok) × (status ≢ InternalServerError)
 
@@ -24,14 +27,19 @@ pprof_blames pprof.Compressed = (λ is. cc, λ is. cc)
 pprof_blames pprof.Weight = (λ is. cc, λ is. cc)
 pprof_blames fault = (λ is. cc, λ is. cc)
 
-pub ingest_blames : (fault : IngestFault) → Blames (ingest_status fault)
+ingest_blames : (fault : IngestFault) → Blames (ingest_status fault)
 ingest_blames (ingest.Folded fault) = folded_blames fault
 ingest_blames (ingest.Pprof fault) = pprof_blames fault
 ingest_blames ingest.Weight = (λ is. cc, λ is. cc)
 ingest_blames fault = (λ is. cc, λ is. cc)
 
-pub push_blames : (fault : PushFault) → Blames (push_status fault)
+push_blames : (fault : PushFault) → Blames (push_status fault)
 push_blames (push.Pprof series sample fault) = pprof_blames fault
 push_blames (push.TooMany series sample) = (λ is. cc, λ is. cc)
 push_blames (push.Weight series sample) = (λ is. cc, λ is. cc)
 push_blames fault = (λ is. cc, λ is. cc)
+
+pub refusal_blames : (wrong : Refusal) → Blames (status_of wrong)
+refusal_blames (refusal.Ingest fault) = ingest_blames fault
+refusal_blames (refusal.Push fault) = push_blames fault
+refusal_blames wrong = (λ is. cc, λ is. cc)

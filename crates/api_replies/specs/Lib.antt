@@ -1,11 +1,6 @@
-pub mod Facts
-pub mod Forms
-pub mod Renders
-pub mod LabelAsks
-pub mod Meanings
 pub mod FaultBodies
 pub mod Refusals
 pub mod Replies
+pub mod ReplyLaws
 pub mod Rendering
 pub mod Listing
-pub mod ReplyLaws

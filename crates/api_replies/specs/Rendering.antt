@@ -4,11 +4,11 @@ use Rattle.std.specs.List.{flat_map}
 use Rattle.profile_model.specs.Sums.{Sample, with_added}
 use Rattle.profile_model.specs.declared.profile.Profile.{Profile}
 use Rattle.api_replies.specs.Replies.{is_matched}
-use Rattle.api_replies.specs.declared.ask.RenderAsk.{RenderAsk}
+use Rattle.request_meaning.specs.declared.ask.RenderAsk.{RenderAsk}
 
 -- the profile stands in the window and is asked for
 abbrev pub is_wanted : RenderAsk → Profile → Bool
-is_wanted what profile = (nat_le what.from_ms profile.time_ms && nat_le profile.time_ms what.until_ms) && is_matched what profile
+is_wanted what profile = (nat_le what.part.from_ms profile.time_ms && nat_le profile.time_ms what.part.until_ms) && is_matched what profile
 
 -- all samples of those that are, in order
 abbrev pub wanted_samples : RenderAsk → List Profile → List Sample

@@ -10,7 +10,7 @@ use Rattle.folded_reader.specs.Written.{written_text}
 use Rattle.label_queries.specs.Labels.{label_sets_of, label_names_of, label_values_of, series_of}
 use Rattle.label_queries.specs.Texts.{names_data, series_data}
 use Rattle.profile_model.specs.LabelSets.{Label}
-use Rattle.profile_model.specs.History.{front_of, rows_of, sums_of_rows}
+use Rattle.push_history.specs.History.{front_of, rows_of, sums_of_rows}
 use Rattle.profile_model.specs.ReadKinds.{parts_in}
 use Rattle.profile_model.specs.declared.kind.ProfileType.{ProfileType}
 use Rattle.profile_model.specs.declared.profile.Profile.{Profile}
@@ -18,20 +18,20 @@ use Rattle.profile_model.specs.declared.push.Push.{Push}
 use Rattle.selector.specs.Matching.{matches}
 use Rattle.serde_json.specs.Written.{compact_text}
 use Rattle.api_replies.specs.FaultBodies.{limit_body}
-use Rattle.api_replies.specs.Facts.{Facts}
-use Rattle.api_replies.specs.Meanings.{IsAsk, IsRefused, IsWrite, TakesMemory}
+use Rattle.request_meaning.specs.Facts.{Facts}
+use Rattle.request_meaning.specs.Meanings.{IsAsk, IsRefused, IsWrite, TakesMemory}
 use Rattle.api_replies.specs.Refusals.{reply_for_memory, reply_for_refusal}
 use Rattle.api_replies.specs.declared.answered.Answered.{Answered}
 use Rattle.api_replies.specs.declared.answered.Answered.TheVariants as answered
-use Rattle.api_replies.specs.declared.ask.Ask.{Ask}
-use Rattle.api_replies.specs.declared.ask.Ask.TheVariants as ask
-use Rattle.api_replies.specs.declared.ask.LabelAsk.{LabelAsk}
-use Rattle.api_replies.specs.declared.ask.LabelQuery.{LabelQuery}
-use Rattle.api_replies.specs.declared.ask.LabelQuery.TheVariants.{Names, Values, Series}
-use Rattle.api_replies.specs.declared.ask.RenderAsk.{RenderAsk}
-use Rattle.api_replies.specs.declared.form.PushForm.{PushForm}
-use Rattle.api_replies.specs.declared.form.PushForm.TheVariants as written
-use Rattle.api_replies.specs.declared.refusal.Refusal.{Refusal}
+use Rattle.request_meaning.specs.declared.ask.Ask.{Ask}
+use Rattle.request_meaning.specs.declared.ask.Ask.TheVariants as ask
+use Rattle.request_meaning.specs.declared.ask.LabelAsk.{LabelAsk}
+use Rattle.request_meaning.specs.declared.ask.LabelQuery.{LabelQuery}
+use Rattle.request_meaning.specs.declared.ask.LabelQuery.TheVariants.{Names, Values, Series}
+use Rattle.request_meaning.specs.declared.ask.RenderAsk.{RenderAsk}
+use Rattle.request_meaning.specs.declared.form.PushForm.{PushForm}
+use Rattle.request_meaning.specs.declared.form.PushForm.TheVariants as written
+use Rattle.request_meaning.specs.declared.refusal.Refusal.{Refusal}
 use Rattle.api_replies.specs.declared.verdict.FirstVerdict.{FirstVerdict}
 use Rattle.api_replies.specs.declared.verdict.FirstVerdict.TheVariants as verdict
 
@@ -72,7 +72,7 @@ is_matched what profile = same_kind profile.kind what.query.kind && matches what
 -- the profiles that a render asks for, over all the tenant's pushes of a history
 abbrev pub asked_rows : List Push → RenderAsk → List Profile
 asked_rows history what =
-    filter (is_matched what) (rows_of history what.tenant (front_of history what.tenant) what.from_ms what.until_ms)
+    filter (is_matched what) (rows_of history what.part.tenant (front_of history what.part.tenant) what.part.from_ms what.part.until_ms)
 
 -- the folded text of what they come to
 abbrev pub rendered : List Push → RenderAsk → List ℕ
@@ -83,7 +83,7 @@ rendered history what = written_text (sums_of_rows (asked_rows history what))
 -- the label sets of the profiles that match, over all the tenant's pushes of a history
 abbrev pub asked_sets : List Push → LabelAsk → List (List Label)
 asked_sets history what =
-    label_sets_of what.selectors.items (rows_of history what.tenant (front_of history what.tenant) what.from_ms what.until_ms)
+    label_sets_of what.selectors.items (rows_of history what.part.tenant (front_of history what.part.tenant) what.part.from_ms what.part.until_ms)
 
 abbrev pub listed : LabelQuery → List (List Label) → List ℕ
 listed Names sets = compact_text (names_data (label_names_of sets))
@@ -94,8 +94,8 @@ listed (Series names) sets = compact_text (series_data (series_of names.items se
 
 -- the answer to a query over a history, and the tenant's front
 abbrev pub answer_to : List Push → Ask → ℕ → Bool → Reply
-answer_to history (ask.Render what) = answering Plain (rendered history what) (front_of history what.tenant)
-answer_to history (ask.Labels what) = answering Json (listed what.query (asked_sets history what)) (front_of history what.tenant)
+answer_to history (ask.Render what) = answering Plain (rendered history what) (front_of history what.part.tenant)
+answer_to history (ask.Labels what) = answering Json (listed what.query (asked_sets history what)) (front_of history what.part.tenant)
 
 -- The reply to a request over a history, at its own moment, by definition: of its refusal, or the answer to a query.
 abbrev pub IsReply : Facts → Asked → List Push → Reply → Type 0

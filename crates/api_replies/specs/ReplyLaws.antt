@@ -4,7 +4,7 @@ use Rattle.http_session.specs.Asked.{Asked}
 use Rattle.http_session.specs.declared.reply.Reply.{Reply}
 use Rattle.http_session.specs.declared.reply.Status.TheVariants.{InternalServerError}
 use Rattle.profile_model.specs.declared.push.Push.{Push}
-use Rattle.api_replies.specs.Facts.{Facts}
+use Rattle.request_meaning.specs.Facts.{Facts}
 use Rattle.api_replies.specs.Replies.{IsReply, IsExcused}
 
 -- A reply by definition never says that the server failed, so no reply is both by definition and excused.

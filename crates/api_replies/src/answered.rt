@@ -1,20 +1,18 @@
 // The reply to a request over a history, or the write that it asks for.
 ghost use Rattle.std.specs.Prelude.{◌≡◌, ◌⊎◌};
-ghost use Rattle.profile_model.specs.History.{HasBoundedTotals};
-ghost use Rattle.api_replies.specs.Facts.{facts_of};
+ghost use Rattle.push_history.specs.History.{HasBoundedTotals};
+ghost use Rattle.request_meaning.specs.Facts.{facts_of};
 ghost use Rattle.api_replies.specs.Refusals.{reply_for_memory};
 ghost use Rattle.api_replies.specs.Replies.{IsAnswer, answer_to, answering};
 
-use crate::ask::Ask;
-use crate::config::Config;
-use crate::form::PushForm;
 use crate::labels::listed_text;
-use crate::meaning::{Meaning, meaning_of};
-use crate::refusal::memory_reply;
+use crate::refusal::{memory_reply, refusal_reply};
 use crate::render::folded_text;
 use faults::Refused;
 use http_session::{Body, Reply, Request, Status, Text};
-use profile_model::{Push, front};
+use profile_model::Push;
+use push_history::front;
+use request_meaning::{Ask, Config, Meaning, PushForm, meaning_of};
 use std::alloc::Global;
 
 /// What is to be done with a request.
@@ -34,7 +32,7 @@ pub fn answer(alloc: Global, request: &Request, history: &[Push], config: &Confi
         Ok(Meaning::Write(form, push)) => Answered::Push(form, push),
         Ok(Meaning::Query(ask)) => Answered::Reply(answer_query(alloc, request, history, ask)),
         Err(Refused::Fault(refusal)) => {
-            Answered::Reply(refusal.reply(request.moment(), request.close()))
+            Answered::Reply(refusal_reply(refusal, request.moment(), request.close()))
         }
         Err(Refused::Memory) => Answered::Reply(memory_reply(request.moment(), request.close())),
     }
@@ -49,13 +47,13 @@ fn answer_query(alloc: Global, request: &Request, history: &[Push], ask: Ask) ->
     match ask {
         Ask::Render(mut ask) => match folded_text(alloc, history, &mut ask) {
             Ok(text) => {
-                let front = front(history, &ask.tenant);
+                let front = front(history, &ask.part.tenant);
                 answering(Text::Plain, Body::from_vec(text), front, now, close)
             }
             Err(_) => memory_reply(now, close),
         },
         Ask::Labels(ask) => {
-            let front = front(history, &ask.tenant);
+            let front = front(history, &ask.part.tenant);
             match listed_text(alloc, history, ask) {
                 Ok(text) => answering(Text::Json, Body::from_vec(text), front, now, close),
                 Err(_) => memory_reply(now, close),

@@ -1,13 +1,13 @@
 // The answer to a query for labels over a history.
 ghost use Rattle.std.specs.Prelude.{◌≡◌, IfOk, OnOk, map};
-ghost use Rattle.profile_model.specs.History.{front_of, rows_of};
+ghost use Rattle.push_history.specs.History.{front_of, rows_of};
 ghost use Rattle.label_queries.specs.Labels.{label_sets_of};
 ghost use Rattle.api_replies.specs.Listing.{with_rows};
 ghost use Rattle.api_replies.specs.Replies.{asked_sets, listed};
 
-use crate::ask::{LabelAsk, LabelQuery};
 use label_queries::{LabelSets, names_text, series_text};
-use profile_model::{Name, Profile, Push, Tenant};
+use profile_model::{Name, PartAsk, Profile, Push};
+use request_meaning::{LabelAsk, LabelQuery};
 use selector::Selector;
 use std::alloc::{AllocError, Global};
 
@@ -20,13 +20,11 @@ pub(crate) fn listed_text(
     ensures { IfOk result (λ text. text.items ≡ listed ask.query (asked_sets history.now ask)) }
 {
     let LabelAsk {
-        tenant,
+        part,
         query,
         selectors,
-        from_ms,
-        until_ms,
     } = ask;
-    let sets = sets_of_history(alloc, history, &tenant, selectors, from_ms, until_ms)?;
+    let sets = sets_of_history(alloc, history, &part, selectors)?;
     match query {
         LabelQuery::Names => names_text(alloc, &sets.names()?),
         LabelQuery::Values(name) => names_text(alloc, &sets.values(name.as_str())?),
@@ -38,18 +36,16 @@ pub(crate) fn listed_text(
 fn sets_of_history(
     alloc: Global,
     history: &[Push],
-    tenant: &Tenant,
+    part: &PartAsk,
     selectors: Vec<Selector>,
-    from_ms: u64,
-    until_ms: u64,
 ) -> Result<LabelSets, AllocError>
     ensures { IfOk result (λ gathered. gathered.sets
-        ≡ label_sets_of selectors.items (rows_of history.now tenant.now (front_of history.now tenant.now) from_ms until_ms)) }
+        ≡ label_sets_of selectors.items (rows_of history.now part.now.tenant (front_of history.now part.now.tenant) part.now.from_ms part.now.until_ms)) }
 {
     let mut sets = LabelSets::new(alloc, selectors);
     for push in history {
-        if push.tenant == *tenant {
-            add_rows(&mut sets, push.profiles.as_slice(), from_ms, until_ms)?;
+        if push.tenant == part.tenant {
+            add_rows(&mut sets, push.profiles.as_slice(), part)?;
         }
     }
     Ok(sets)
@@ -59,13 +55,12 @@ fn sets_of_history(
 fn add_rows(
     sets: &mut LabelSets,
     profiles: &[Profile],
-    from_ms: u64,
-    until_ms: u64,
+    part: &PartAsk,
 ) -> Result<(), AllocError>
-    ensures { OnOk result (sets.new ≡ with_rows sets.old profiles.now from_ms until_ms) }
+    ensures { OnOk result (sets.new ≡ with_rows sets.old profiles.now part.now.from_ms part.now.until_ms) }
 {
     for profile in profiles {
-        if from_ms <= profile.time_ms && profile.time_ms <= until_ms {
+        if part.from_ms <= profile.time_ms && profile.time_ms <= part.until_ms {
             sets.add(profile)?;
         }
     }

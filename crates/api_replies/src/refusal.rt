@@ -1,99 +1,29 @@
-// Why a request isn't served, and the reply that says so. No reply here takes memory.
-ghost use Rattle.std.specs.Prelude.{◌≡◌, ◌≤◌, ◌∷◌, [], IfSome, length, option_map};
-ghost use Rattle.std.specs.Option.{option_to_list};
-ghost use Rattle.selector.specs.Faults as selector;
-ghost use Rattle.api_replies.specs.Refusals.{code_of, folded_status, ingest_status, last_reply, place_of, pprof_status, push_status, refusing, reply_for_ingest, reply_for_memory, reply_for_push, reply_for_reading, reply_for_refusal, wrong_method};
+// The replies of refusals. No reply here takes memory.
+ghost use Rattle.std.specs.Prelude.{◌≡◌, ◌≤◌, length, option_map};
+ghost use Rattle.faults.specs.Places.{numbers_of};
+ghost use Rattle.api_replies.specs.Refusals.{allow_of, body_of, folded_status, ingest_status, last_reply, pprof_status, push_status, refusing, reply_for_memory, reply_for_refusal, status_of};
 
 use crate::fault_body::{named, placed};
-use arrayvec::ArrayVec;
-use faults::Refused;
+use faults::Place;
 use folded_reader::FoldedFault;
 use http_session::{Allow, BadRequest, Body, Reply, Status, Text};
 use ingest::IngestFault;
 use json_push::PushFault;
 use pprof_codec::PprofFault;
-use selector::SelectorFault;
+use request_meaning::Refusal;
 
-/// Why a request isn't served.
-#[derive(Clone, Copy, Debug, PartialEq, Eq)]
-pub(crate) enum Refusal {
-    NoRoute,
-    /// The path is a route's, which has this method alone.
-    WrongMethod(Allow),
-    /// A form that isn't built yet.
-    Unbuilt,
-    NoTenant,
-    /// The first wrong byte of the tenant's name.
-    BadTenant(usize),
-    /// The body isn't sent as it is.
-    Encoded,
-    Ingest(IngestFault),
-    Push(PushFault),
-    /// A render without the parameter `query`.
-    NoQuery,
-    Selector(SelectorFault),
-    /// The parameter `from` is no time.
-    From,
-    /// The parameter `until` is no time.
-    Until,
-    /// The window ends before it begins.
-    Window,
-    /// The body is no JSON object.
-    NotObject,
-    /// The number of a field that is of a wrong kind.
-    WrongKind(u64),
-}
-
-impl Refusal {
-    /// The reply at this moment.
-    pub(crate) fn reply(self, now: u64, close: bool) -> Reply
-        ensures { result ≡ reply_for_refusal self now close }
-    {
-        match self {
-            Refusal::NoRoute => refused(Status::NotFound, named("route"), now, close),
-            Refusal::WrongMethod(allow) => wrong_method(allow, now, close),
-            Refusal::Unbuilt => unbuilt_reply(now, close),
-            Refusal::NoTenant => refused(Status::Unauthorized, named("tenant"), now, close),
-            Refusal::Encoded => refused(
-                Status::UnsupportedMediaType,
-                named("encoding"),
-                now,
-                close,
-            ),
-            Refusal::Ingest(fault) => ingest_reply(fault, now, close),
-            Refusal::Push(fault) => push_reply(fault, now, close),
-            fault => reading_reply(Status::BadRequest, fault.code(), &fault.place(), now, close),
-        }
-    }
-
-    // The code of a fault of reading.
-    fn code(self) -> Option<&'static str>
-        ensures { option_map (λ code. code.now) result ≡ code_of self }
-    {
-        match self {
-            Refusal::BadTenant(_) => Some("T1"),
-            Refusal::NoQuery => Some("Q1"),
-            Refusal::Selector(fault) => fault.code(),
-            Refusal::From | Refusal::Until => Some("Q2"),
-            Refusal::Window => Some("Q3"),
-            Refusal::NotObject => Some("J1"),
-            Refusal::WrongKind(_) => Some("J3"),
-            _ => None,
-        }
-    }
-
-    // Where it stands.
-    fn place(self) -> ArrayVec<u64, 2>
-        ensures { result.items ≡ place_of self }
-    {
-        match self {
-            Refusal::BadTenant(at) => one_number(at as u64),
-            Refusal::Selector(fault) => selector_place(fault),
-            Refusal::From => one_number(1),
-            Refusal::Until => one_number(2),
-            Refusal::WrongKind(number) => one_number(number),
-            _ => ArrayVec::new(),
-        }
+/// The reply to a request that is refused.
+pub(crate) fn refusal_reply(refusal: Refusal, now: u64, close: bool) -> Reply
+    ensures { result ≡ reply_for_refusal refusal now close }
+{
+    Reply {
+        status: status_of(refusal),
+        text: Text::Json,
+        body: body_of(refusal.code(), refusal.place()),
+        allow: allow_of(refusal),
+        front: None,
+        now,
+        close,
     }
 }
 
@@ -112,47 +42,45 @@ pub fn closing_reply(bad: BadRequest, now: u64) -> Option<Reply>
         BadRequest::Malformed => Some(refused(Status::BadRequest, named("H1"), now, true)),
         BadRequest::HeadTooLarge => Some(refused(Status::HeadersTooLarge, named("H2"), now, true)),
         BadRequest::BodyTooLarge => Some(refused(Status::ContentTooLarge, named("H3"), now, true)),
-        BadRequest::Chunked => Some(unbuilt_reply(now, true)),
+        BadRequest::Chunked => Some(refusal_reply(Refusal::Unbuilt, now, true)),
         BadRequest::CutOff => None,
     }
 }
 
-fn unbuilt_reply(now: u64, close: bool) -> Reply
-    ensures { result ≡ reply_for_refusal Refusal.Unbuilt now close }
+// A fault of what is read is told with its place.
+fn body_of(code: &str, place: Option<Place>) -> Body
+    requires { length code.now ≤ 100 }
+    ensures { result ≡ body_of code.now (option_map numbers_of place) }
 {
-    refused(Status::NotImplemented, named("unbuilt"), now, close)
-}
-
-fn wrong_method(allow: Allow, now: u64, close: bool) -> Reply
-    ensures { result ≡ wrong_method allow now close }
-{
-    Reply {
-        status: Status::MethodNotAllowed,
-        text: Text::Json,
-        body: named("method"),
-        allow: Some(allow),
-        front: None,
-        now,
-        close,
+    match place {
+        Some(place) => placed(code, place.numbers().as_slice()),
+        None => named(code),
     }
 }
 
-fn ingest_reply(fault: IngestFault, now: u64, close: bool) -> Reply
-    ensures { result ≡ reply_for_ingest fault now close }
+// A route with another method names its own.
+fn allow_of(refusal: Refusal) -> Option<Allow>
+    ensures { result ≡ allow_of refusal }
 {
-    reading_reply(
-        ingest_status(fault),
-        fault.code(),
-        &fault.place(),
-        now,
-        close,
-    )
+    match refusal {
+        Refusal::WrongMethod(allow) => Some(allow),
+        _ => None,
+    }
 }
 
-fn push_reply(fault: PushFault, now: u64, close: bool) -> Reply
-    ensures { result ≡ reply_for_push fault now close }
+fn status_of(refusal: Refusal) -> Status
+    ensures { result ≡ status_of refusal }
 {
-    reading_reply(push_status(fault), fault.code(), &fault.place(), now, close)
+    match refusal {
+        Refusal::NoRoute => Status::NotFound,
+        Refusal::WrongMethod(_) => Status::MethodNotAllowed,
+        Refusal::Unbuilt => Status::NotImplemented,
+        Refusal::NoTenant => Status::Unauthorized,
+        Refusal::Encoded => Status::UnsupportedMediaType,
+        Refusal::Ingest(fault) => ingest_status(fault),
+        Refusal::Push(fault) => push_status(fault),
+        _ => Status::BadRequest,
+    }
 }
 
 fn ingest_status(fault: IngestFault) -> Status
@@ -195,41 +123,6 @@ fn push_status(fault: PushFault) -> Status
     }
 }
 
-// A fault of reading, by its code and its place; want of memory has no code.
-fn reading_reply(
-    status: Status,
-    code: Option<&'static str>,
-    place: &[u64],
-    now: u64,
-    close: bool,
-) -> Reply
-    requires few { length place.now ≤ 3 }
-    requires short { IfSome code (λ text. length text.now ≤ 100) }
-    ensures { result ≡ reply_for_reading status (option_map (λ text. text.now) code.entry) place.now now close }
-{
-    match code {
-        Some(code) => refused(status, placed(code, place), now, close),
-        None => memory_reply(now, close),
-    }
-}
-
-fn selector_place(fault: SelectorFault) -> ArrayVec<u64, 2>
-    ensures { result.items ≡ option_to_list (selector.place_of fault) }
-{
-    match fault.place() {
-        Some(number) => one_number(number),
-        None => ArrayVec::new(),
-    }
-}
-
-fn one_number(number: u64) -> ArrayVec<u64, 2>
-    ensures { result.items ≡ number ∷ [] }
-{
-    let mut place = ArrayVec::new();
-    place.push(number);
-    place
-}
-
 fn refused(status: Status, body: Body, now: u64, close: bool) -> Reply
     ensures { result ≡ refusing status body now close }
 {
@@ -241,15 +134,5 @@ fn refused(status: Status, body: Body, now: u64, close: bool) -> Reply
         front: None,
         now,
         close,
-    }
-}
-
-impl From<Refusal> for Refused<Refusal> {
-    ghost use Rattle.faults.specs.declared.refused.Refused.TheVariants.{Fault};
-
-    ghost from_gives = { λ refusal refused. refused ≡ Fault refusal };
-
-    fn from(refusal: Refusal) -> Refused<Refusal> {
-        Refused::Fault(refusal)
     }
 }

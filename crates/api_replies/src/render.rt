@@ -2,13 +2,14 @@
 ghost use Rattle.std.specs.Prelude.{◌≡◌, ◌≢◌, ◌+◌, ◌^◌, ◌<◌, ◌≤◌, IfOk, OnOk};
 ghost use Rattle.profile_model.specs.Sums.{total_of};
 ghost use Rattle.profile_model.specs.Pushes.{profiles_total};
-ghost use Rattle.profile_model.specs.History.{sums_of_rows, tenant_total};
+ghost use Rattle.push_history.specs.History.{sums_of_rows, tenant_total};
 ghost use Rattle.api_replies.specs.Rendering.{is_wanted, wanted_samples, with_samples};
 ghost use Rattle.api_replies.specs.Replies.{asked_rows, rendered};
 
-use crate::ask::RenderAsk;
 use folded_reader::write_folded;
+use faults::Refused;
 use profile_model::{AddFault, Profile, Push, StackSums};
+use request_meaning::RenderAsk;
 use std::alloc::{AllocError, Global};
 
 /// What the profiles that are asked for come to, as folded text.
@@ -17,7 +18,7 @@ pub(crate) fn folded_text(
     history: &[Push],
     ask: &mut RenderAsk,
 ) -> Result<Vec<u8>, AddFault>
-    requires { tenant_total history.now ask.old.tenant < 2 ^ 63 }
+    requires { tenant_total history.now ask.old.part.tenant < 2 ^ 63 }
     ensures ok { IfOk result (λ text. text.items ≡ rendered history.now ask.old) }
     ensures err { result ≢ Err AddFault.Sum }
     ensures unchanged { ask.new ≡ ask.old }
@@ -31,14 +32,14 @@ fn sums_of_history(
     history: &[Push],
     ask: &mut RenderAsk,
 ) -> Result<StackSums, AddFault>
-    requires { tenant_total history.now ask.old.tenant < 2 ^ 63 }
+    requires { tenant_total history.now ask.old.part.tenant < 2 ^ 63 }
     ensures ok { IfOk result (λ sums. sums ≡ sums_of_rows (asked_rows history.now ask.old)) }
     ensures err { result ≢ Err AddFault.Sum }
     ensures unchanged { ask.new ≡ ask.old }
 {
     let mut sums = StackSums::new(alloc);
     for push in history {
-        if push.tenant == ask.tenant {
+        if push.tenant == ask.part.tenant {
             add_profiles(&mut sums, push.profiles.as_slice(), ask)?;
         }
     }
@@ -71,8 +72,8 @@ fn wants(ask: &mut RenderAsk, profile: &Profile) -> Result<bool, AllocError>
     ensures exact { IfOk result (λ answer. answer ≡ is_wanted ask.old profile.now) }
     ensures unchanged { ask.new ≡ ask.old }
 {
-    if ask.from_ms <= profile.time_ms
-        && profile.time_ms <= ask.until_ms
+    if ask.part.from_ms <= profile.time_ms
+        && profile.time_ms <= ask.part.until_ms
         && profile.kind == ask.query.kind
     {
         ask.query.selector.matches(&profile.labels, &profile.kind)

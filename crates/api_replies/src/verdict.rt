@@ -4,9 +4,9 @@ ghost use Rattle.api_replies.specs.Replies.{reply_for_kept, reply_for_verdict};
 
 use crate::answered::answering;
 use crate::fault_body::over_limit;
-use crate::form::PushForm;
 use crate::refusal::memory_reply;
 use http_session::{Body, Reply, Status, Text};
+use request_meaning::PushForm;
 
 /// What became of a push.
 #[derive(Clone, Copy, Debug, PartialEq, Eq)]

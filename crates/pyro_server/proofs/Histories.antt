@@ -5,13 +5,13 @@ use Rattle.std.proofs.lemmas.List.Elements.{filter-append}
 use Rattle.std.proofs.Math.Seq.{take-append_seam, take-nil}
 use Rattle.http_session.specs.declared.reply.Reply.{Reply}
 use Rattle.http_session.specs.declared.reply.Status.TheVariants.{Ok}
-use Rattle.profile_model.specs.History.{front_of, pushes_of, pushes_total}
+use Rattle.push_history.specs.History.{front_of, pushes_of, pushes_total}
 use Rattle.profile_model.specs.declared.push.Push.{Push}
-use Rattle.api_replies.specs.Facts.{Facts}
-use Rattle.api_replies.specs.Forms.{tenant_of}
-use Rattle.api_replies.specs.Meanings.{IsWrite}
+use Rattle.request_meaning.specs.Facts.{Facts}
+use Rattle.request_meaning.specs.Forms.{tenant_of}
+use Rattle.request_meaning.specs.Meanings.{IsWrite}
 use Rattle.api_replies.proofs.ReplyLemmas.{answers_no_write, own_again, reply_alike, shows_its_front, writer_is_named}
-use Rattle.api_replies.specs.declared.form.PushForm.{PushForm}
+use Rattle.request_meaning.specs.declared.form.PushForm.{PushForm}
 use Rattle.api_replies.specs.declared.verdict.FirstVerdict.{FirstVerdict}
 use Rattle.api_replies.specs.declared.verdict.FirstVerdict.TheVariants.{Kept, OverLimit, Memory}
 use Rattle.pyro_server.specs.Given.{Answer}

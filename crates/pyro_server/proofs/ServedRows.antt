@@ -4,9 +4,9 @@ use Rattle.std.specs.Prelude.{nat_eq}
 use Rattle.std.specs.Cmp.Lexicographic.{pointwise, nat_list_eq_equiv}
 use Rattle.std.proofs.Math.Seq.{get_or-append_seam}
 use Rattle.std.proofs.lemmas.List.Elements.{All-head, filter-append}
-use Rattle.profile_model.specs.History.{pushes_of}
+use Rattle.push_history.specs.History.{pushes_of}
 use Rattle.profile_model.specs.declared.push.Push.{Push}
-use Rattle.api_replies.specs.Facts.{Facts}
+use Rattle.request_meaning.specs.Facts.{Facts}
 use Rattle.pyro_server.specs.Given.{Answer}
 use Rattle.pyro_server.specs.ServedAt.{FrontsRise, IsAcknowledged, IsAtLeast, IsKept, Shows, StandsAt}
 

@@ -10,11 +10,11 @@ use Rattle.http_session.specs.declared.bad_request.BadRequest.{BadRequest}
 use Rattle.http_session.specs.declared.reader.NextRequest.TheVariants as answer
 use Rattle.http_session.specs.declared.reply.Reply.{Reply}
 use Rattle.profile_model.specs.declared.push.Push.{Push}
-use Rattle.api_replies.specs.Facts.{Facts}
-use Rattle.api_replies.specs.Meanings.{IsWrite, TakesMemory}
+use Rattle.request_meaning.specs.Facts.{Facts}
+use Rattle.request_meaning.specs.Meanings.{IsWrite, TakesMemory}
 use Rattle.api_replies.specs.Replies.{reply_for_verdict}
-use Rattle.api_replies.specs.declared.form.PushForm.{PushForm}
-use Rattle.api_replies.specs.declared.form.PushForm.TheVariants as written
+use Rattle.request_meaning.specs.declared.form.PushForm.{PushForm}
+use Rattle.request_meaning.specs.declared.form.PushForm.TheVariants as written
 use Rattle.api_replies.specs.declared.verdict.FirstVerdict.{FirstVerdict}
 use Rattle.api_replies.specs.declared.verdict.FirstVerdict.TheVariants.{Kept, OverLimit, Memory}
 use Rattle.pyro_server.specs.Settled.{IsSettledOrNot}

@@ -5,12 +5,12 @@ use Rattle.std.specs.List.{All}
 use Rattle.std.proofs.lemmas.List.{take-append-le}
 use Rattle.std.proofs.lemmas.List.Elements.{All-nil, All-cons, All-weaker}
 use Rattle.link_trait.specs.Link.{Told}
-use Rattle.profile_model.specs.History.{front_of}
+use Rattle.push_history.specs.History.{front_of}
 use Rattle.profile_model.specs.declared.push.Push.{Push}
-use Rattle.api_replies.specs.Forms.{tenant_of}
-use Rattle.api_replies.specs.Facts.{Facts}
+use Rattle.request_meaning.specs.Forms.{tenant_of}
+use Rattle.request_meaning.specs.Facts.{Facts}
 use Rattle.api_replies.specs.Replies.{IsExcused, reply_for_verdict}
-use Rattle.api_replies.specs.declared.form.PushForm.{PushForm}
+use Rattle.request_meaning.specs.declared.form.PushForm.{PushForm}
 use Rattle.api_replies.specs.declared.verdict.FirstVerdict.{FirstVerdict}
 use Rattle.api_replies.specs.declared.verdict.FirstVerdict.TheVariants.{Kept, OverLimit, Memory}
 use Rattle.api_replies.proofs.FailureLemmas.{never_both}

@@ -10,7 +10,7 @@ use Rattle.http_session.specs.Takes.{IsWhole, AreRequests, is_closed}
 use Rattle.http_session.specs.Waiting.{Waiting}
 use Rattle.http_session.proofs.RequestsLemmas.{closed_last, requests_stay, requests_then}
 use Rattle.profile_model.specs.declared.push.Push.{Push}
-use Rattle.api_replies.specs.Facts.{Facts}
+use Rattle.request_meaning.specs.Facts.{Facts}
 use Rattle.pyro_server.specs.Given.{Answer, EndsSo, Gives, IsEnded, IsOpen, requests_of, replies_of, last_bytes}
 use Rattle.pyro_server.specs.Served.{Exchange, InTurn, IsExchange, IsServedInTurn, answers_of}
 use Rattle.pyro_server.specs.Steps.{GivesNoMore, ServesStep, SoFar}

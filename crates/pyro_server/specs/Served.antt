@@ -4,10 +4,10 @@ use Rattle.http_session.specs.Asked.{Asked}
 use Rattle.link_trait.specs.Link.{Told}
 use Rattle.http_session.specs.declared.reply.Reply.{Reply}
 use Rattle.profile_model.specs.declared.push.Push.{Push}
-use Rattle.api_replies.specs.Facts.{Facts}
-use Rattle.api_replies.specs.Meanings.{IsWrite}
+use Rattle.request_meaning.specs.Facts.{Facts}
+use Rattle.request_meaning.specs.Meanings.{IsWrite}
 use Rattle.api_replies.specs.Replies.{IsReply, IsExcused, reply_for_verdict}
-use Rattle.api_replies.specs.declared.form.PushForm.{PushForm}
+use Rattle.request_meaning.specs.declared.form.PushForm.{PushForm}
 use Rattle.api_replies.specs.declared.verdict.FirstVerdict.{FirstVerdict}
 use Rattle.pyro_server.specs.Given.{Answer, IsEnded}
 use Rattle.pyro_server.specs.Settled.{IsSettled}

@@ -4,12 +4,12 @@ use Rattle.std.specs.Prelude.{◌≡◌, ◌+◌, ◌<◌, ◌≤◌, ℕ, List,
 use Rattle.std.specs.List.{All}
 use Rattle.link_trait.specs.Link.{Told}
 use Rattle.http_session.specs.declared.reply.Status.TheVariants.{Ok}
-use Rattle.profile_model.specs.History.{front_of, pushes_of}
+use Rattle.push_history.specs.History.{front_of, pushes_of}
 use Rattle.profile_model.specs.declared.push.Push.{Push}
-use Rattle.api_replies.specs.Facts.{Facts}
-use Rattle.api_replies.specs.Forms.{tenant_of}
-use Rattle.api_replies.specs.Meanings.{IsWrite}
-use Rattle.api_replies.specs.declared.form.PushForm.{PushForm}
+use Rattle.request_meaning.specs.Facts.{Facts}
+use Rattle.request_meaning.specs.Forms.{tenant_of}
+use Rattle.request_meaning.specs.Meanings.{IsWrite}
+use Rattle.request_meaning.specs.declared.form.PushForm.{PushForm}
 use Rattle.pyro_server.specs.Given.{Answer, IsEnded}
 use Rattle.pyro_server.specs.Served.{IsExchange}
 use Rattle.pyro_server.specs.declared.ending.Ending.{Ending}

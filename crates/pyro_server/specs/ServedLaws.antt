@@ -6,13 +6,13 @@ use Rattle.http_session.specs.Asked.{Asked}
 use Rattle.http_session.specs.Takes as takes
 use Rattle.http_session.specs.Takes.{AreRequests, Takes, is_closed}
 use Rattle.http_session.specs.declared.reply.Reply.{Reply}
-use Rattle.profile_model.specs.History.{pushes_of}
+use Rattle.push_history.specs.History.{pushes_of}
 use Rattle.profile_model.specs.declared.push.Push.{Push}
-use Rattle.api_replies.specs.Facts.{Facts}
-use Rattle.api_replies.specs.Forms.{tenant_of}
-use Rattle.api_replies.specs.Meanings.{IsWrite}
+use Rattle.request_meaning.specs.Facts.{Facts}
+use Rattle.request_meaning.specs.Forms.{tenant_of}
+use Rattle.request_meaning.specs.Meanings.{IsWrite}
 use Rattle.api_replies.specs.Replies.{IsReply, IsExcused}
-use Rattle.api_replies.specs.declared.form.PushForm.{PushForm}
+use Rattle.request_meaning.specs.declared.form.PushForm.{PushForm}
 use Rattle.api_replies.specs.declared.verdict.FirstVerdict.TheVariants.{Kept}
 use Rattle.pyro_server.specs.Given.{Answer, IsEnded, requests_of}
 use Rattle.pyro_server.specs.Settled.{IsSettled}

@@ -1,7 +1,7 @@
 -- What becomes of a push.
 use Rattle.std.specs.Prelude.{◌≡◌, ◌+◌, ◌<◌, ◌≤◌, ℕ, List, [], ◌∷◌, ◌++◌}
 use Rattle.profile_model.specs.Pushes.{profiles_total}
-use Rattle.profile_model.specs.History.{front_of, tenant_total}
+use Rattle.push_history.specs.History.{front_of, tenant_total}
 use Rattle.profile_model.specs.declared.push.Push.{Push}
 use Rattle.api_replies.specs.declared.verdict.FirstVerdict.{FirstVerdict}
 use Rattle.api_replies.specs.declared.verdict.FirstVerdict.TheVariants.{Kept, OverLimit, Memory}

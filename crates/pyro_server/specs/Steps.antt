@@ -7,7 +7,7 @@ use Rattle.http_session.specs.Takes.{IsWhole, is_closed}
 use Rattle.http_session.specs.Waiting.{Waiting}
 use Rattle.http_session.specs.declared.reply.Reply.{Reply}
 use Rattle.profile_model.specs.declared.push.Push.{Push}
-use Rattle.api_replies.specs.Facts.{Facts}
+use Rattle.request_meaning.specs.Facts.{Facts}
 use Rattle.pyro_server.specs.Given.{EndsSo, IsFrontOf, IsOpen, last_bytes}
 use Rattle.pyro_server.specs.Served.{Exchange, IsExchange, InTurn, answers_of}
 use Rattle.pyro_server.specs.declared.session.Step.{Step}

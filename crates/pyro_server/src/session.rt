@@ -3,8 +3,8 @@ ghost use Rattle.std.specs.Prelude.{◌≡◌, ◌≢◌, ◌+◌, ◌<◌, [], 
 ghost use Rattle.link_trait.specs.Link.{Goes, Rose};
 ghost use Rattle.http_session.specs.Reply.{bytes_of_reply};
 ghost use Rattle.http_session.specs.declared.reply.Reply.{Reply};
-ghost use Rattle.profile_model.specs.History.{HasBoundedTotals};
-ghost use Rattle.api_replies.specs.Facts.{facts_of};
+ghost use Rattle.push_history.specs.History.{HasBoundedTotals};
+ghost use Rattle.request_meaning.specs.Facts.{facts_of};
 ghost use Rattle.pyro_server.specs.Served.{IsExchange, IsServedInTurn};
 ghost use Rattle.pyro_server.specs.ServedAt.{IsServedAt};
 ghost use Rattle.pyro_server.specs.ServedLaws.{AnswersAreIsolated};
@@ -12,10 +12,11 @@ ghost use Rattle.pyro_server.specs.Steps.{GivesBytes, GivesLast, GivesReply, IsA
 
 use crate::ending::Ending;
 use crate::settle::settle;
-use api_replies::{Answered, Config, acknowledge, answer, closing_reply, memory_reply};
+use api_replies::{Answered, acknowledge, answer, closing_reply, memory_reply};
 use http_session::{BadRequest, NextRequest, Reader, Reply, Request, write_reply};
 use link_trait::Link;
 use profile_model::Push;
+use request_meaning::Config;
 use std::alloc::Global;
 
 /// A connection closes after this many requests.

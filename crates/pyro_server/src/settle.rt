@@ -1,10 +1,11 @@
 // A push joins the history, or is refused.
-ghost use Rattle.profile_model.specs.History.{HasBoundedTotals};
+ghost use Rattle.push_history.specs.History.{HasBoundedTotals};
 ghost use Rattle.std.specs.Prelude.{◌-◌, ◌^◌};
 ghost use Rattle.pyro_server.specs.Settled.{IsSettledOrNot};
 
 use api_replies::FirstVerdict;
-use profile_model::{MAX_TOTAL, Push, front, kept_total};
+use profile_model::{MAX_TOTAL, Push};
+use push_history::standing;
 
 /// Keeps the push at the history's end, where its tenant's total allows it and there is memory.
 pub(crate) fn settle(history: &mut Vec<Push>, push: Push) -> FirstVerdict
@@ -12,19 +13,18 @@ pub(crate) fn settle(history: &mut Vec<Push>, push: Push) -> FirstVerdict
     ensures bounded { HasBoundedTotals history.new.items }
     ensures settled { IsSettledOrNot (2 ^ 63 - 1) history.old.items push result history.new.items }
 {
-    let kept = kept_total(history, &push.tenant);
+    let before = standing(history, &push.tenant);
     let adds = push.total();
-    let before = front(history, &push.tenant);
-    if kept + adds > u128::from(MAX_TOTAL) {
+    if before.total + adds > u128::from(MAX_TOTAL) {
         return FirstVerdict::OverLimit {
-            kept,
+            kept: before.total,
             push: adds,
             limit: MAX_TOTAL,
-            front: before,
+            front: before.front,
         };
     }
     match history.push(push) {
-        Ok(()) => FirstVerdict::Kept(before + 1),
+        Ok(()) => FirstVerdict::Kept(before.front + 1),
         Err(_) => FirstVerdict::Memory,
     }
 }

@@ -1,5 +1,5 @@
 use Rattle.std.proofs.Common.{inl, inr}
-use Rattle.api_replies.specs.Facts.{facts_of}
+use Rattle.request_meaning.specs.Facts.{facts_of}
 use Rattle.api_replies.proofs.AnswerLemmas.{query_answered}
 use Rattle.api_replies.proofs.answered.answer.Goals as goal
 

@@ -5,7 +5,7 @@ use Rattle.label_queries.specs.Labels.{series_of}
 use Rattle.label_queries.specs.Texts.{series_data}
 use Rattle.serde_json.specs.Written.{compact_text}
 use Rattle.api_replies.specs.Replies.{asked_sets, listed}
-use Rattle.api_replies.specs.declared.ask.LabelQuery.{LabelQuery}
+use Rattle.request_meaning.specs.declared.ask.LabelQuery.{LabelQuery}
 use Rattle.api_replies.proofs.labels.listed_text.Goals as goal
 
 pub returns : goal.returns

@@ -1,5 +1,5 @@
 use Rattle.std.proofs.Common.{◌≡◌, ◌∙◌, [], sym, arith, drop}
-use Rattle.profile_model.proofs.HistoryLemmas.{tenant_total-within}
+use Rattle.push_history.proofs.HistoryLemmas.{tenant_total-within}
 use Rattle.std.proofs.lemmas.List.{drop_all}
 use Rattle.api_replies.proofs.RenderingLemmas.{sums_are}
 use Rattle.api_replies.proofs.render.sums_of_history.Goals as goal

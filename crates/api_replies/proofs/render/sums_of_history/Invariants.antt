@@ -1,6 +1,6 @@
 use Rattle.std.proofs.Common.{◌≡◌, ◌≤◌, [], drop, take}
 use Rattle.profile_model.specs.Sums.{total_of}
-use Rattle.profile_model.specs.History.{tenant_total}
+use Rattle.push_history.specs.History.{tenant_total}
 use Rattle.api_replies.specs.Rendering.{wanted_samples, with_samples}
 use Rattle.api_replies.proofs.RenderingLemmas.{profiles_in}
 use Rattle.api_replies.proofs.render.sums_of_history.Given as goal

@@ -1,5 +1,5 @@
 use Rattle.std.proofs.Common.{inl, inr, refl, ⊎_elim}
-use Rattle.api_replies.specs.Facts.{facts_of}
+use Rattle.request_meaning.specs.Facts.{facts_of}
 use Rattle.pyro_server.proofs.Serving.{settled_exchange}
 use Rattle.pyro_server.proofs.session.reply_to.Goals as goal
 

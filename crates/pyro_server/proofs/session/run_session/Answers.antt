@@ -1,5 +1,5 @@
 use Rattle.link_trait.proofs.GoesLemmas.{goes_weaker}
-use Rattle.api_replies.specs.Facts.{facts_of}
+use Rattle.request_meaning.specs.Facts.{facts_of}
 use Rattle.pyro_server.proofs.Histories.{answers_are_isolated}
 use Rattle.pyro_server.proofs.ServingAt.{served_at}
 use Rattle.pyro_server.proofs.session.run_session.Goals as goal

@@ -2,7 +2,7 @@ use Rattle.std.proofs.Common.{◌≡◌, ◌+◌, ◌<◌, ◌∙◌, false, ref
 use Rattle.http_session.specs.Waiting.{Waiting}
 use Rattle.http_session.specs.Takes.{IsWhole}
 use Rattle.link_trait.proofs.GoesLemmas.{goes_then, goes_nowhere}
-use Rattle.api_replies.specs.Facts.{facts_of}
+use Rattle.request_meaning.specs.Facts.{facts_of}
 use Rattle.pyro_server.specs.Steps.{SoFar}
 use Rattle.pyro_server.proofs.Sessions.{at_first, one_more, over, closed, last_closes}
 use Rattle.pyro_server.specs.declared.ending.Ending.TheVariants.{Closed, LastRequest}

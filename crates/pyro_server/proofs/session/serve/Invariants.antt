@@ -1,7 +1,7 @@
 use Rattle.std.proofs.Common.{◌≡◌, ◌+◌, true, false}
 use Rattle.link_trait.specs.Link.{Goes}
-use Rattle.profile_model.specs.History.{HasBoundedTotals}
-use Rattle.api_replies.specs.Facts.{facts_of}
+use Rattle.push_history.specs.History.{HasBoundedTotals}
+use Rattle.request_meaning.specs.Facts.{facts_of}
 use Rattle.pyro_server.specs.Steps.{SoFar}
 use Rattle.pyro_server.proofs.session.serve.Given as goal
 

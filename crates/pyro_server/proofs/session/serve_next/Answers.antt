@@ -1,6 +1,6 @@
 use Rattle.std.proofs.Common.{◌≡◌, ◌+◌, refl, arith}
 use Rattle.link_trait.proofs.GoesLemmas.{goes_then, goes_weaker}
-use Rattle.api_replies.specs.Facts.{facts_of}
+use Rattle.request_meaning.specs.Facts.{facts_of}
 use Rattle.pyro_server.proofs.Serving.{answered_step, ended_step, failed_step, refused_step, starved_step}
 use Rattle.pyro_server.proofs.session.serve_next.Goals as goal
 

@@ -1,7 +1,7 @@
 use Rattle.std.proofs.Common.{◌+◌, ◌<◌, ◌^◌, arith}
-use Rattle.profile_model.specs.History.{tenant_total}
+use Rattle.push_history.specs.History.{tenant_total}
 use Rattle.profile_model.specs.Pushes.{profiles_total}
-use Rattle.profile_model.proofs.HistoryLemmas.{bounded-push}
+use Rattle.push_history.proofs.HistoryLemmas.{bounded-push}
 use Rattle.pyro_server.proofs.settle.settle.Goals as goal
 use Rattle.pyro_server.proofs.settle.settle.Goals.{in-Ok, in-Err}
 

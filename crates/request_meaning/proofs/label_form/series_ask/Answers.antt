@@ -1,0 +1,16 @@
+use Rattle.std.proofs.Common.{refl, sym, ap, ◌∙◌, map}
+use Rattle.std.specs.Prelude.{Some}
+use Rattle.request_meaning.specs.declared.ask.LabelQuery.TheVariants as ask
+use Rattle.request_meaning.specs.declared.method.LabelMethod.TheVariants.{Series}
+use Rattle.request_meaning.proofs.LabelLemmas.{kept_ok, object_asks}
+use Rattle.request_meaning.proofs.label_form.series_ask.Goals as goal
+
+pub returns : goal.returns
+returns c =
+    let body = c.in_ok-body.body in
+    let names = c.in_ok-names_of.field-0 in
+    let said = kept_ok _ _ _ c.of.result c.map_err.result body c.of.ensures.read c.map_err.ensures.cases c.map_err.ensures.variant c.in_ok-body.was in
+    let read = rw c.deref.ensures.value at c.in_ok-names_of.ensures in
+    object_asks Series c.args.object.now c.args.tenant (ask.Series names) (map (λ text. text.now) body.matchers.items) body.start_ms body.end_ms c.label_ask.result
+    refl (said.label_names ∙ ap Some (sym read)) said.matchers (record { start = said.start; end = said.end })
+    (rw c.deref-2.ensures.value at c.label_ask.ensures)

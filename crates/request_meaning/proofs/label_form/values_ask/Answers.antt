@@ -1,0 +1,15 @@
+use Rattle.std.proofs.Common.{refl, sym, ap, ◌∙◌, map}
+use Rattle.std.specs.Prelude.{Some}
+use Rattle.request_meaning.specs.declared.ask.LabelQuery.TheVariants as ask
+use Rattle.request_meaning.specs.declared.method.LabelMethod.TheVariants.{Values}
+use Rattle.request_meaning.proofs.LabelLemmas.{kept_ok, object_asks}
+use Rattle.request_meaning.proofs.label_form.values_ask.Goals as goal
+
+pub returns : goal.returns
+returns c =
+    let body = c.in_ok-body.body in
+    let name = c.in_ok-from_text.field-0 in
+    let said = kept_ok _ _ _ c.of.result c.map_err.result body c.of.ensures.read c.map_err.ensures.cases c.map_err.ensures.variant c.in_ok-body.was in
+    object_asks Values c.args.object.now c.args.tenant (ask.Values name) (map (λ text. text.now) body.matchers.items) body.start_ms body.end_ms c.label_ask.result
+    refl (said.name ∙ ap Some (sym c.in_ok-from_text.ensures.ok)) said.matchers (record { start = said.start; end = said.end })
+    (rw c.deref.ensures.value at c.label_ask.ensures)

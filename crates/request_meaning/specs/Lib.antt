@@ -1,0 +1,6 @@
+pub mod Facts
+pub mod Forms
+pub mod Refusals
+pub mod Renders
+pub mod LabelAsks
+pub mod Meanings

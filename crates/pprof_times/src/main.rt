@@ -1,6 +1,7 @@
 //! Reads the pprof on standard input so many times, and tells what it found: for measuring the reader.
 #![tactic(auto)]
 
+use faults::Refused;
 use pprof_codec::{Base, PprofFault, read_pprof};
 use profile_model::{LabelSet, Name, Profile};
 use std::alloc::Global;
@@ -18,11 +19,11 @@ fn main(rt: HostRuntime) -> io::Result<()> {
     }
     match read_once(alloc, &bytes) {
         Ok(profiles) => tell(&rt, &profiles),
-        Err(fault) => println!(rt; "{fault}"),
+        Err(refused) => println!(rt; "{refused}"),
     }
 }
 
-fn read_once(alloc: Global, bytes: &[u8]) -> Result<Vec<Profile>, PprofFault> {
+fn read_once(alloc: Global, bytes: &[u8]) -> Result<Vec<Profile>, Refused<PprofFault>> {
     let base = Base {
         labels: LabelSet::of_service(alloc, Name::from_text(alloc, "bench")?)?,
         name: Name::from_text(alloc, "process_cpu")?,

@@ -1,4 +1,8 @@
 // Why an entry wasn't taken.
+ghost use Rattle.std.specs.Prelude.{◌≡◌};
+ghost use Rattle.faults.specs.declared.refused.Refused.TheVariants.{Fault};
+
+use faults::Refused;
 use std::error::Error;
 use std::fmt;
 
@@ -7,7 +11,6 @@ use std::fmt;
 pub enum ApplyFault {
     /// It neither follows the last entry nor stands in for a run, or its id isn't the next or a later one below 2^63.
     NotARun,
-    Memory,
 }
 
 impl fmt::Display for ApplyFault {
@@ -17,9 +20,16 @@ impl fmt::Display for ApplyFault {
                 f,
                 "the entry's id isn't a new one below 2^63, or it neither follows the last entry nor stands in for a run"
             ),
-            ApplyFault::Memory => write!(f, "out of memory"),
         }
     }
 }
 
 impl Error for ApplyFault {}
+
+impl From<ApplyFault> for Refused<ApplyFault> {
+    ghost from_gives = { λ fault refused. refused ≡ Fault fault };
+
+    fn from(fault: ApplyFault) -> Refused<ApplyFault> {
+        Refused::Fault(fault)
+    }
+}

@@ -8,6 +8,7 @@ use crate::changes::take_in;
 use crate::entry::Entry;
 use crate::fault::ApplyFault;
 use crate::runs::{cover, end_of, level_of_run};
+use faults::Refused;
 use std::alloc::{AllocError, Global};
 use std::marker::Model;
 
@@ -59,17 +60,17 @@ impl Index {
 
     /// Takes an entry of level 0 that follows the last one, or one that stands in for a run of the level below its own.
     /// `Memory` comes only without room, at an entry of level 0 that would be taken.
-    pub fn apply(&mut self, entry: Entry) -> Result<(), ApplyFault>
+    pub fn apply(&mut self, entry: Entry) -> Result<(), Refused<ApplyFault>>
         ensures ok { OnOk result (IsTaken self.old entry × Becomes self.old.entries entry self.new.entries × (self.new.greatest ≡ entry.id)) }
-        ensures refused { IsErrOf result ApplyFault.NotARun → ¬ (IsTaken self.old entry) }
-        ensures memory { IsErrOf result ApplyFault.Memory → (self.old.spare ≡ 0) × (entry.level ≡ 0) × IsTaken self.old entry }
+        ensures refused { IsErrOf result (Refused.Fault ApplyFault.NotARun) → ¬ (IsTaken self.old entry) }
+        ensures memory { IsErrOf result Refused.Memory → (self.old.spare ≡ 0) × (entry.level ≡ 0) × IsTaken self.old entry }
         ensures spare { OnOk result (self.old.spare ≤ self.new.spare + 1) }
         ensures no_less { OnErr result (self.old.spare ≤ self.new.spare) }
         ensures unchanged { OnErr result ((self.new.entries ≡ self.old.entries) × (self.new.greatest ≡ self.old.greatest)) }
         ensures comes { (taken : List Entry) → ComesTo taken self.old → OnOk result (ComesTo (taken ++ entry ∷ []) self.new) }
     {
         if entry.id <= self.greatest || entry.id > MAX_ID {
-            return Err(ApplyFault::NotARun);
+            return Err(Refused::Fault(ApplyFault::NotARun));
         }
         take_in(&mut self.entries, entry)?;
         self.greatest = entry.id;

@@ -1,6 +1,7 @@
 ghost use Rattle.std.specs.Prelude.{◌<◌, ◌≤◌};
 
 use super::*;
+use faults::Refused;
 use std::alloc::Global;
 use std::test::Fail;
 
@@ -69,7 +70,10 @@ fn an_entry_stands_in_for_the_run_that_it_covers(rt: HostRuntime) -> Result<(), 
 #[test]
 fn a_run_begins_with_the_oldest_of_its_level(rt: HostRuntime) -> Result<(), Fail> {
     let mut index = eight(rt.alloc())?;
-    assert_eq!(rt; index.apply(entry(4, 8, 9, 1)), Err(ApplyFault::NotARun));
+    assert_eq!(rt;
+        index.apply(entry(4, 8, 9, 1)),
+        Err(Refused::Fault(ApplyFault::NotARun))
+    );
     assert_eq!(rt; index.entries().len(), 8);
     index.apply(entry(0, 4, 9, 1))?;
     index.apply(entry(4, 8, 10, 1))?;
@@ -85,7 +89,7 @@ fn an_id_is_above_all_that_were_taken(rt: HostRuntime) -> Result<(), Fail> {
     for id in [1, 8, 1 << 63] {
         assert_eq!(rt;
             index.apply(entry(8, 9, id, 0)),
-            Err(ApplyFault::NotARun),
+            Err(Refused::Fault(ApplyFault::NotARun)),
             "at {id}"
         );
     }
@@ -105,7 +109,7 @@ fn after_room_an_entry_takes_no_memory(rt: HostRuntime) -> Result<(), Fail> {
 // Whether eight entries refuse this one and stay as they are.
 fn is_refused(alloc: Global, entry: Entry) -> Result<bool, Fail> {
     let mut index = eight(alloc)?;
-    let refused = index.apply(entry) == Err(ApplyFault::NotARun);
+    let refused = index.apply(entry) == Err(Refused::Fault(ApplyFault::NotARun));
     Ok(refused && index.entries().len() == 8 && index.next_id() == 9)
 }
 

@@ -1,6 +1,5 @@
 use Rattle.std.proofs.Common.{inr, arith}
-use Rattle.std.proofs.lemmas.Result.{on_ok_weaker}
 use Rattle.metastore_index.proofs.changes.take_in.Goals as goal
 
-pub returns-else-entry-eq0-clause-ok : goal.returns-else-entry-eq0-clause-ok
-returns-else-entry-eq0-clause-ok c = on_ok_weaker c.stand_in.result (λ p. (inr (omega arith, p.0), p.1)) c.stand_in.ensures.ok
+pub returns-in_ok-stand_in-clause-ok : goal.returns-in_ok-stand_in-clause-ok
+returns-in_ok-stand_in-clause-ok c = let p = c.in_ok-stand_in.ensures.ok in (inr (omega arith, p.0), p.1)

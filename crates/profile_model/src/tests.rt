@@ -1,4 +1,7 @@
 // What no clause says: that each call succeeds with ample memory, and the texts of the faults.
+ghost use Rattle.std.specs.Prelude.{IfOk};
+ghost use Rattle.profile_model.specs.LabelSets.{AreProfileLabels};
+
 use crate::*;
 use faults::Refused;
 use std::alloc::Global;
@@ -15,10 +18,15 @@ const SAMPLES: [(&[&str], u64); 5] = [
     (&["main", "c"], 0),
 ];
 
+fn push_name(alloc: Global, names: &mut Vec<Name>, text: &str) -> Result<(), Fail> {
+    let name = Name::from_text(alloc, text)?;
+    Ok(names.push(name)?)
+}
+
 fn names(alloc: Global, texts: &[&str]) -> Result<Vec<Name>, Fail> {
     let mut names = Vec::new(alloc);
     for text in texts {
-        names.push(Name::from_text(alloc, text)?)?;
+        push_name(alloc, &mut names, text)?;
     }
     Ok(names)
 }
@@ -33,10 +41,14 @@ fn stack(alloc: Global, texts: &[&str]) -> Result<Stack, Fail> {
     Ok(Stack::from_frames(frames)?)
 }
 
+fn is_copied(name: &Name, text: &str, length: usize) -> Result<bool, Fail> {
+    let copy = name.clone()?;
+    Ok(copy.as_str() == text && copy.len() == length && *name == copy)
+}
+
 fn name_is_kept(alloc: Global, bytes: &[u8], text: &str, length: usize) -> Result<bool, Fail> {
     let name = Name::read(alloc, bytes)?;
-    let copy = name.clone()?;
-    Ok(copy.as_str() == text && copy.len() == length && name == copy)
+    is_copied(&name, text, length)
 }
 
 fn name_fault(alloc: Global, bytes: &[u8]) -> Option<Refused<NameFault>> {
@@ -77,10 +89,9 @@ fn a_stack_is_refused_at_its_first_wrong_frame(rt: HostRuntime) -> Result<(), Fa
 }
 
 fn equal_names(alloc: Global, count: usize) -> Result<Vec<Name>, Fail> {
-    let frame = Name::from_text(alloc, "f")?;
     let mut names = Vec::new(alloc);
     for _ in 0..count {
-        names.push(frame.clone()?)?;
+        push_name(alloc, &mut names, "f")?;
     }
     Ok(names)
 }
@@ -122,18 +133,19 @@ fn count_and_total(alloc: Global) -> Result<(usize, u64), Fail> {
     Ok((sums.len(), sums.total()))
 }
 
-fn values_in(alloc: Global, sums: &StackSums) -> Result<Vec<u64>, Fail> {
-    let mut values = Vec::new(alloc);
+fn has_values(sums: &StackSums, expected: &[u64]) -> bool {
+    let mut rest = expected.iter();
     for (_stack, value) in sums.iter() {
-        values.push(*value)?;
+        if rest.next() != Some(value) {
+            return false;
+        }
     }
-    Ok(values)
+    rest.next().is_none()
 }
 
 fn values_are(alloc: Global, expected: &[u64]) -> Result<bool, Fail> {
     let sums = sums_of(alloc, &SAMPLES)?;
-    let values = values_in(alloc, &sums)?;
-    Ok(values.as_slice() == expected)
+    Ok(has_values(&sums, expected))
 }
 
 fn value_of(alloc: Global, sums: &StackSums, texts: &[&str]) -> Result<u64, Fail> {
@@ -171,10 +183,14 @@ fn equal_stacks_are_summed_and_others_ascend(rt: HostRuntime) -> Result<(), Fail
     Ok(())
 }
 
+fn tenant_is_copied(tenant: &Tenant, bytes: &[u8]) -> Result<bool, Fail> {
+    let copy = tenant.clone()?;
+    Ok(copy.as_bytes() == bytes && *tenant == copy)
+}
+
 fn tenant_is_kept(alloc: Global, bytes: &[u8]) -> Result<bool, Fail> {
     let tenant = Tenant::read(alloc, bytes)?;
-    let copy = tenant.clone()?;
-    Ok(tenant.as_bytes() == bytes && tenant == copy)
+    tenant_is_copied(&tenant, bytes)
 }
 
 fn tenant_fault(alloc: Global, bytes: &[u8]) -> Option<Refused<TenantFault>> {
@@ -203,6 +219,11 @@ fn a_tenant_is_told_from_what_is_none(rt: HostRuntime) -> Result<(), Fail> {
     Ok(())
 }
 
+fn type_is_copied(kind: &ProfileType) -> Result<bool, Fail> {
+    let copy = kind.clone()?;
+    Ok(*kind == copy)
+}
+
 fn type_is_kept(
     alloc: Global,
     text: &str,
@@ -211,12 +232,11 @@ fn type_is_kept(
     period_unit: &str,
 ) -> Result<bool, Fail> {
     let kind = ProfileType::read(alloc, text)?;
-    let copy = kind.clone()?;
     Ok(
         kind.name.as_str() == name
             && kind.sample_unit.as_str() == sample_unit
             && kind.period_unit.as_str() == period_unit
-            && kind == copy,
+            && type_is_copied(&kind)?,
     )
 }
 
@@ -244,17 +264,34 @@ fn a_type_has_five_parts(rt: HostRuntime) -> Result<(), Fail> {
     Ok(())
 }
 
-fn profile_of_service(alloc: Global) -> Result<Profile, Fail> {
-    let service = Name::from_text(alloc, "app")?;
-    let labels = LabelSet::of_service(alloc, service)?;
-    let kind = ProfileType::read(alloc, "a:b:c:d:e")?;
-    let values = sums_of(alloc, &[(&["main"], 7)])?;
+fn profile_with(
+    alloc: Global,
+    labels: LabelSet,
+    kind: &str,
+    samples: &[(&[&str], u64)],
+) -> Result<Profile, Fail>
+    requires { AreProfileLabels labels }
+{
+    let kind = ProfileType::read(alloc, kind)?;
+    let values = sums_of(alloc, samples)?;
     Ok(Profile {
         labels,
         kind,
         time_ms: 1_700_000_000_000,
         values,
     })
+}
+
+fn labels_of_service(alloc: Global) -> Result<LabelSet, Fail>
+    ensures { IfOk result AreProfileLabels }
+{
+    let service = Name::from_text(alloc, "app")?;
+    Ok(LabelSet::of_service(alloc, service)?)
+}
+
+fn profile_of_service(alloc: Global) -> Result<Profile, Fail> {
+    let labels = labels_of_service(alloc)?;
+    profile_with(alloc, labels, "a:b:c:d:e", &[(&["main"], 7)])
 }
 
 fn count_of_labels(alloc: Global) -> Result<usize, Fail> {
@@ -292,7 +329,9 @@ fn pairs(alloc: Global, texts: &[(&str, &str)]) -> Result<Vec<(Name, Name)>, Fai
     Ok(pairs)
 }
 
-fn labels(alloc: Global, texts: &[(&str, &str)]) -> Result<LabelSet, Fail> {
+fn labels(alloc: Global, texts: &[(&str, &str)]) -> Result<LabelSet, Fail>
+    ensures { IfOk result AreProfileLabels }
+{
     let pairs = pairs(alloc, texts)?;
     Ok(LabelSet::from_pairs(alloc, &pairs)?)
 }
@@ -343,34 +382,50 @@ fn fault_of(
     Ok(LabelSet::from_pairs(alloc, &given).err())
 }
 
-// The first of the cases that isn't refused as it should be; `name` and `value` are too long.
-fn wrong_case(alloc: Global, name: &str, value: &str) -> Result<Option<usize>, Fail> {
-    let cases = [
-        (("a", "1"), ("", "2"), LabelFault::BadName(1)),
-        (("9a", "1"), ("b", value), LabelFault::BadName(0)),
-        (("a-b", "1"), ("a", "2"), LabelFault::BadName(0)),
-        ((name, "1"), ("a", "2"), LabelFault::BadName(0)),
-        (("a", value), ("", "2"), LabelFault::BadValue(0)),
-        (("a", "1"), ("a", value), LabelFault::BadValue(1)),
-        (("a", ""), ("a", "2"), LabelFault::Repeated(1)),
-        (("a", "1"), ("a", ""), LabelFault::Repeated(1)),
-    ];
-    for (at, (first, second, fault)) in cases.iter().enumerate() {
-        if fault_of(alloc, *first, *second)? != Some(Refused::Fault(*fault)) {
-            return Ok(Some(at));
-        }
-    }
-    Ok(None)
+fn is_refused(
+    alloc: Global,
+    first: (&str, &str),
+    second: (&str, &str),
+    fault: LabelFault,
+) -> Result<bool, Fail> {
+    Ok(fault_of(alloc, first, second)? == Some(Refused::Fault(fault)))
 }
 
-fn wrong_case_of_lengths(
+// The name and the value are too long.
+fn wrong_names_are_refused(alloc: Global, name: &str, value: &str) -> Result<bool, Fail> {
+    Ok(
+        is_refused(alloc, ("a", "1"), ("", "2"), LabelFault::BadName(1))?
+            && is_refused(alloc, ("9a", "1"), ("b", value), LabelFault::BadName(0))?
+            && is_refused(alloc, ("a-b", "1"), ("a", "2"), LabelFault::BadName(0))?
+            && is_refused(alloc, (name, "1"), ("a", "2"), LabelFault::BadName(0))?,
+    )
+}
+
+fn long_values_are_refused(alloc: Global, value: &str) -> Result<bool, Fail> {
+    Ok(
+        is_refused(alloc, ("a", value), ("", "2"), LabelFault::BadValue(0))?
+            && is_refused(alloc, ("a", "1"), ("a", value), LabelFault::BadValue(1))?,
+    )
+}
+
+fn repeated_names_are_refused(alloc: Global) -> Result<bool, Fail> {
+    Ok(
+        is_refused(alloc, ("a", ""), ("a", "2"), LabelFault::Repeated(1))?
+            && is_refused(alloc, ("a", "1"), ("a", ""), LabelFault::Repeated(1))?,
+    )
+}
+
+fn are_refused_at_lengths(
     alloc: Global,
     name_length: usize,
     value_length: usize,
-) -> Result<Option<usize>, Fail> {
+) -> Result<bool, Fail> {
     let name = long_text(alloc, name_length)?;
     let value = long_text(alloc, value_length)?;
-    wrong_case(alloc, name.as_str(), value.as_str())
+    Ok(
+        wrong_names_are_refused(alloc, name.as_str(), value.as_str())?
+            && long_values_are_refused(alloc, value.as_str())?,
+    )
 }
 
 fn is_taken_at_lengths(
@@ -387,7 +442,8 @@ fn is_taken_at_lengths(
 #[test]
 fn pairs_are_refused_at_the_first_that_breaks_a_rule(rt: HostRuntime) -> Result<(), Fail> {
     let alloc = rt.alloc();
-    assert_eq!(rt; wrong_case_of_lengths(alloc, 1025, 2049)?, None);
+    assert!(rt; are_refused_at_lengths(alloc, 1025, 2049)?);
+    assert!(rt; repeated_names_are_refused(alloc)?);
     assert!(rt; is_taken_at_lengths(alloc, 1024, 2048)?);
     Ok(())
 }
@@ -491,10 +547,14 @@ fn a_label_is_put_found_and_left_out(rt: HostRuntime) -> Result<(), Fail> {
     Ok(())
 }
 
-fn order(alloc: Global, one: &[(&str, &str)], other: &[(&str, &str)]) -> Result<Ordering, Fail> {
-    let one = labels(alloc, one)?;
+fn order_to(alloc: Global, one: &LabelSet, other: &[(&str, &str)]) -> Result<Ordering, Fail> {
     let other = labels(alloc, other)?;
     Ok(one.cmp(&other))
+}
+
+fn order(alloc: Global, one: &[(&str, &str)], other: &[(&str, &str)]) -> Result<Ordering, Fail> {
+    let one = labels(alloc, one)?;
+    order_to(alloc, &one, other)
 }
 
 #[test]
@@ -520,10 +580,14 @@ fn is_cleaned(alloc: Global, text: &str, expected: &str) -> Result<bool, Fail> {
     Ok(name.as_str() == expected)
 }
 
-fn is_written_as_read(alloc: Global, text: &str) -> Result<bool, Fail> {
-    let kind = ProfileType::read(alloc, text)?;
+fn is_written(alloc: Global, kind: &ProfileType, text: &str) -> Result<bool, Fail> {
     let written = kind.to_string(alloc)?;
     Ok(written.as_str() == text)
+}
+
+fn is_written_as_read(alloc: Global, text: &str) -> Result<bool, Fail> {
+    let kind = ProfileType::read(alloc, text)?;
+    is_written(alloc, &kind, text)
 }
 
 #[test]
@@ -540,16 +604,9 @@ fn weight_of_stack(alloc: Global, texts: &[&str]) -> Result<u64, Fail> {
 }
 
 fn profile(alloc: Global, service: &str) -> Result<Profile, Fail> {
-    let pairs = pairs(alloc, &[("service_name", service)])?;
-    let labels = LabelSet::from_pairs(alloc, &pairs)?;
-    let kind = ProfileType::read(alloc, "cpu::count:c p:ns")?;
-    let values = sums_of(alloc, &[(&["main"], 7), (&["main", "run"], 1)])?;
-    Ok(Profile {
-        labels,
-        kind,
-        time_ms: 0,
-        values,
-    })
+    let labels = labels(alloc, &[("service_name", service)])?;
+    let samples: [(&[&str], u64); 2] = [(&["main"], 7), (&["main", "run"], 1)];
+    profile_with(alloc, labels, "cpu::count:c p:ns", &samples)
 }
 
 fn profiles(alloc: Global) -> Result<Profiles, Fail> {
@@ -559,18 +616,19 @@ fn profiles(alloc: Global) -> Result<Profiles, Fail> {
     Ok(Profiles::from_vec(items))
 }
 
-fn weights_in(alloc: Global, profiles: &[Profile]) -> Result<Vec<u64>, Fail> {
-    let mut weights = Vec::new(alloc);
+fn have_weights(profiles: &[Profile], expected: &[u64]) -> bool {
+    let mut rest = expected.iter();
     for profile in profiles {
-        weights.push(profile.weight())?;
+        if rest.next() != Some(&profile.weight()) {
+            return false;
+        }
     }
-    Ok(weights)
+    rest.next().is_none()
 }
 
 fn profiles_weigh(alloc: Global, expected: &[u64]) -> Result<bool, Fail> {
     let profiles = profiles(alloc)?;
-    let weights = weights_in(alloc, profiles.as_slice())?;
-    Ok(weights.as_slice() == expected)
+    Ok(have_weights(profiles.as_slice(), expected))
 }
 
 fn weight_of_push(alloc: Global) -> Result<u64, Fail> {

@@ -3,7 +3,7 @@ use crate::{IngestFault, read_ingest};
 use faults::Refused;
 use folded_reader::FoldedFault;
 use pprof_codec::PprofFault;
-use profile_model::{LabelFault, Profile, ProfileType, Push, Tenant};
+use profile_model::{LabelFault, Push, Tenant};
 use query_parameters::read_parameters;
 use std::alloc::Global;
 use std::test::Fail;
@@ -32,35 +32,9 @@ fn told(alloc: Global, query: &str, body: &[u8]) -> Result<String, Fail> {
     let push = read(alloc, query, body)??;
     let mut text = String::new(alloc);
     for profile in push.profiles.as_slice() {
-        tell(alloc, profile, &mut text)?;
+        text.push_str(&format!(in alloc; "{profile}")?)?;
     }
     Ok(text)
-}
-
-fn tell(alloc: Global, profile: &Profile, text: &mut String) -> Result<(), Fail> {
-    for (name, value) in profile.labels.pairs() {
-        text.push_str(&format!(in alloc; "{name}={value} ")?)?;
-    }
-    let ProfileType {
-        name,
-        sample_type,
-        sample_unit,
-        period_type,
-        period_unit,
-    } = &profile.kind;
-    let time_ms = profile.time_ms;
-    text.push_str(&format!(in alloc;
-        "{name}:{sample_type}:{sample_unit}:{period_type}:{period_unit} {time_ms}\n"
-    )?)?;
-    for (stack, value) in profile.values.iter() {
-        let mut between = "";
-        for frame in stack.frames() {
-            text.push_str(&format!(in alloc; "{between}{frame}")?)?;
-            between = ";";
-        }
-        text.push_str(&format!(in alloc; " {value}\n")?)?;
-    }
-    Ok(())
 }
 
 #[test]

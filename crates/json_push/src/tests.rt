@@ -3,7 +3,7 @@ use crate::{PushFault, read_push};
 use base64::engine::general_purpose::STANDARD;
 use faults::{Place, Refused};
 use pprof_codec::PprofFault;
-use profile_model::{LabelFault, Profile, ProfileType, Push, Tenant};
+use profile_model::{LabelFault, Push, Tenant};
 use std::alloc::{AllocError, Global};
 use std::test::Fail;
 
@@ -34,44 +34,9 @@ fn told(alloc: Global, parts: &[&str]) -> Result<String, Fail> {
     let push = read(alloc, parts)??;
     let mut text = String::new(alloc);
     for profile in push.profiles.as_slice() {
-        tell(alloc, profile, &mut text)?;
+        text.push_str(&format!(in alloc; "{profile}")?)?;
     }
     Ok(text)
-}
-
-fn tell(alloc: Global, profile: &Profile, text: &mut String) -> Result<(), Fail> {
-    for (name, value) in profile.labels.pairs() {
-        text.push_str(&format!(in alloc; "{name}={value} ")?)?;
-    }
-    let ProfileType {
-        name,
-        sample_type,
-        sample_unit,
-        period_type,
-        period_unit,
-    } = &profile.kind;
-    let time_ms = profile.time_ms;
-    text.push_str(&format!(in alloc;
-        "{name}:{sample_type}:{sample_unit}:{period_type}:{period_unit} {time_ms}\n"
-    )?)?;
-    for (stack, value) in profile.values.iter() {
-        let mut between = "";
-        for frame in stack.frames() {
-            text.push_str(&format!(in alloc; "{between}{frame}")?)?;
-            between = ";";
-        }
-        text.push_str(&format!(in alloc; " {value}\n")?)?;
-    }
-    Ok(())
-}
-
-// The code of the fault and its place; no code where there is no fault.
-fn fault_of(alloc: Global, parts: &[&str]) -> Result<(Option<&'static str>, Place), Fail> {
-    match read(alloc, parts)? {
-        Ok(_push) => Ok((None, Place::Whole)),
-        Err(Refused::Fault(fault)) => Ok((Some(fault.code()), fault.place())),
-        Err(Refused::Memory) => Err(Fail::from(AllocError)),
-    }
 }
 
 #[test]

@@ -1,7 +1,7 @@
 // Worked profiles, and what no clause says: that the calls succeed with ample memory, and the texts of the faults.
 use crate::{Base, Member, PprofFault, read_pprof};
 use faults::{Place, Refused};
-use profile_model::{LabelSet, Name, Profile, ProfileType};
+use profile_model::{LabelSet, Name};
 use std::alloc::Global;
 use std::test::Fail;
 
@@ -40,35 +40,9 @@ fn told(alloc: Global, parts: &[&[u8]]) -> Result<String, Fail> {
     let profiles = read_pprof(alloc, &bytes, &base(alloc)?)?;
     let mut text = String::new(alloc);
     for profile in &profiles {
-        tell(alloc, profile, &mut text)?;
+        text.push_str(&format!(in alloc; "{profile}")?)?;
     }
     Ok(text)
-}
-
-fn tell(alloc: Global, profile: &Profile, text: &mut String) -> Result<(), Fail> {
-    for (name, value) in profile.labels.pairs() {
-        text.push_str(&format!(in alloc; "{name}={value} ")?)?;
-    }
-    let ProfileType {
-        name,
-        sample_type,
-        sample_unit,
-        period_type,
-        period_unit,
-    } = &profile.kind;
-    let time_ms = profile.time_ms;
-    text.push_str(&format!(in alloc;
-        "{name}:{sample_type}:{sample_unit}:{period_type}:{period_unit} {time_ms}\n"
-    )?)?;
-    for (stack, value) in profile.values.iter() {
-        let mut between = "";
-        for frame in stack.frames() {
-            text.push_str(&format!(in alloc; "{between}{frame}")?)?;
-            between = ";";
-        }
-        text.push_str(&format!(in alloc; " {value}\n")?)?;
-    }
-    Ok(())
 }
 
 #[test]

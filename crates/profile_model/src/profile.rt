@@ -5,6 +5,7 @@ ghost use Rattle.profile_model.specs.Limits.{most_profiles};
 
 use crate::{LabelSet, ProfileType, StackSums};
 use std::alloc::{AllocError, Global};
+use std::fmt;
 use std::marker::Model;
 
 /// The most profiles that one push may have.
@@ -19,6 +20,20 @@ pub struct Profile {
     pub time_ms: u64,
     pub values: StackSums,
     ghost labelled: { AreProfileLabels labels },
+}
+
+// A line of the labels, the type and the time, and one of each stack and its value.
+impl fmt::Display for Profile {
+    fn fmt<W: fmt::Write>(&self, f: &mut fmt::Formatter<W>) -> fmt::Result {
+        for (name, value) in self.labels.pairs() {
+            write!(f, "{name}={value} ")?;
+        }
+        writeln!(f, "{} {}", self.kind, self.time_ms)?;
+        for (stack, value) in self.values.iter() {
+            writeln!(f, "{stack} {value}")?;
+        }
+        Ok(())
+    }
 }
 
 /// The profiles of one push, in its order: at most `MAX_PROFILES`.

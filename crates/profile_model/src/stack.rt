@@ -106,6 +106,17 @@ fn wrong_frame(frames: &[Name]) -> Option<StackFault>
     None
 }
 
+impl fmt::Display for Stack {
+    fn fmt<W: fmt::Write>(&self, f: &mut fmt::Formatter<W>) -> fmt::Result {
+        let mut between = "";
+        for frame in self.frames() {
+            write!(f, "{between}{frame}")?;
+            between = ";";
+        }
+        Ok(())
+    }
+}
+
 impl Clone for Stack {
     ghost is_clone = { λ stack copy. copy ≡ stack };
 

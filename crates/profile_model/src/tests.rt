@@ -651,3 +651,17 @@ fn a_push_weighs_what_it_holds(rt: HostRuntime) -> Result<(), Fail> {
     assert_eq!(rt; weight_of_push(alloc)?, 256 + 2 * first + 2);
     Ok(())
 }
+
+fn shows(alloc: Global, text: &str) -> Result<bool, Fail> {
+    let profile = profile(alloc, "app")?;
+    Ok(profile.to_string(alloc)?.as_str() == text)
+}
+
+#[test]
+fn a_profile_shows_its_labels_its_type_its_time_and_its_stacks(
+    rt: HostRuntime,
+) -> Result<(), Fail> {
+    let text = "service_name=app cpu::count:c p:ns 1700000000000\nmain 7\nmain;run 1\n";
+    assert!(rt; shows(rt.alloc(), text)?);
+    Ok(())
+}

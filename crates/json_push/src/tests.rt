@@ -39,6 +39,15 @@ fn told(alloc: Global, parts: &[&str]) -> Result<String, Fail> {
     Ok(text)
 }
 
+// The code of the fault and its place; no code where there is no fault.
+fn fault_of(alloc: Global, parts: &[&str]) -> Result<(Option<&'static str>, Place), Fail> {
+    match read(alloc, parts)? {
+        Ok(_push) => Ok((None, Place::Whole)),
+        Err(Refused::Fault(fault)) => Ok((Some(fault.code()), fault.place())),
+        Err(Refused::Memory) => Err(Fail::from(AllocError)),
+    }
+}
+
 #[test]
 fn a_series_without_labels_is_unspecified(rt: HostRuntime) -> Result<(), Fail> {
     let text = told(

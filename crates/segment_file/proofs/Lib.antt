@@ -10,3 +10,7 @@ pub mod EncodeLemmas
 pub mod RoomLemmas
 pub mod PartLemmas
 pub mod WorkedRows
+pub mod ReadLemmas
+pub mod ReadNumbers
+pub mod ReadAnswers
+pub mod ReadTexts

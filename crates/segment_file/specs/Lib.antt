@@ -6,3 +6,4 @@ pub mod Bytes
 pub mod Decoded
 pub mod Parts
 pub mod Laws
+pub mod Reading

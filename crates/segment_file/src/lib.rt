@@ -5,11 +5,13 @@
 #![tactic(auto)]
 
 mod encode;
+mod cursor;
 mod fault;
 mod laws;
 mod length;
 mod object;
 mod part;
+mod texts;
 #[cfg(test)]
 mod tests;
 

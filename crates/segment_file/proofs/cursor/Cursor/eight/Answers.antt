@@ -1,0 +1,8 @@
+use Rattle.std.proofs.Common.{subst}
+use Rattle.segment_file.specs.Reading.{AreShort, CursorView}
+use Rattle.segment_file.proofs.ReadNumbers.{cut_eight}
+use Rattle.segment_file.proofs.cursor.Cursor.eight.Goals as goal
+
+pub returns-in-None : goal.returns-in-None
+returns-in-None c =
+    cut_eight c.args.self.now c.missing.result (subst (λ (v : CursorView). AreShort 8 v.rest) c.self.view_is c.in-None.ensures) c.missing.ensures.rule c.missing.ensures.at

@@ -14,3 +14,5 @@ pub mod ReadLemmas
 pub mod ReadNumbers
 pub mod ReadAnswers
 pub mod ReadTexts
+pub mod ReadOrder
+pub mod ReadLabels

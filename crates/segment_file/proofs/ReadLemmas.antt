@@ -1,17 +1,22 @@
 -- What was taken and where a reader stopped, one thing after another.
-use Rattle.std.proofs.Common.{◌≡◌, ◌≢◌, ◌⊎◌, inl, inr, ◌&&◌, ℕ, suc, zero, ◌+◌, ◌-◌, ◌<◌, ◌^◌, Bool, true, false, List, [], ◌∷◌, ◌++◌, length, Some, None, refl, subst, sym, ap, ◌∙◌, arith}
-use Rattle.std.specs.Prelude.{nat_lt, Option}
+use Rattle.std.proofs.Common.{◌≡◌, ◌≢◌, ◌⊎◌, inl, inr, ◌&&◌, ℕ, suc, zero, ◌+◌, ◌-◌, ◌<◌, ◌^◌, Bool, true, false, List, [], ◌∷◌, ◌++◌, length, Some, None, Result, Ok, Err, refl, subst, sym, ap, ◌∙◌, arith}
+use Rattle.std.specs.Prelude.{MatchResult, Option, nat_lt}
 use Rattle.std.specs.List.{list_all}
 use Rattle.std.specs.Option.{is_none}
+use Rattle.std.specs.Str.{is_utf8}
 use Rattle.std.proofs.lemmas.Bool.{and_from, and_parts, lt-ltb}
 use Rattle.std.proofs.lemmas.Grind.{flat_map-append}
 use Rattle.std.proofs.lemmas.List.{append_assoc, append-nil, length-append}
 use Rattle.std.proofs.lemmas.List.Folds.{list_all-append}
+use Rattle.faults.specs.Answers.{IfFault}
+use Rattle.faults.specs.declared.refused.Refused.{Refused}
 use Rattle.segment_file.specs.declared.fault.ObjectFault.{ObjectFault}
 use Rattle.segment_file.specs.declared.fault.ObjectRule.{ObjectRule}
 use Rattle.segment_file.specs.declared.fault.ObjectRule.TheVariants.{Content, Form}
 use Rattle.segment_file.specs.Fields.{AreSound, Field, Fit, each_of, listed, number, spelled, unless}
-use Rattle.segment_file.specs.Reading.{Begins, BeginsCounted, CursorView, IsCut, IsCutHere, IsWhole, IsWrongHere, Passes, Spelling, Stopped, Took, numbers}
+use Rattle.segment_file.specs.ReadFields.{IsFieldRead, alone, count_field, judged, list_fields}
+use Rattle.segment_file.specs.Reading.{Begins, BeginsCounted, CursorView, IsContentAt, IsCut, IsCutHere, IsWhole, IsWrongHere, Passes, Spelling, Stopped, Took, is_kept, numbers, texts}
+use Rattle.segment_file.proofs.ReadAnswers.{weaker}
 
 -- ---- one after another
 
@@ -196,13 +201,6 @@ stopped_item fields filler fits count before short p q fault took s =
 
 -- ---- a list and its count
 
--- the count's own field
-abbrev pub count_field : (ℕ → Bool) → ℕ → Field
-count_field few n = number 4 n (unless (few n) Content)
-
-abbrev pub list_fields : {A : Type 0} → (ℕ → Bool) → (List A → A → List Field) → List A → List Field
-list_fields few fields items = listed (few (length items)) fields items
-
 pub number_field : (size : ℕ) (judge : ℕ → Option ObjectRule) → IsFieldOf (numbers size) (λ n. number size n (judge n))
 number_field size judge = record { bytes = λ n. refl; fits = λ n fits. lt-ltb n (256 ^ size) fits }
 
@@ -243,3 +241,84 @@ stopped_list few fields count p q fault took s =
 pub took_list : {A : Type 0} (few : ℕ → Bool) (fields : List A → A → List Field) (items : List A) (p q r : CursorView)
     → Took (count_field few (length items) ∷ []) p q → Took (each_of fields [] items) q r → Took (list_fields few fields items) p r
 took_list few fields items p q r first next = took_both (count_field few (length items) ∷ []) (each_of fields [] items) p q r first next
+
+-- ---- fields by their rules
+
+pub text_field : (judge : List ℕ → Bool) → IsFieldOf texts (judged judge)
+text_field judge = record { bytes = λ text. refl; fits = λ text fits. lt-ltb (length text) (256 ^ 4) fits }
+
+right : (kept : Bool) (rule : ObjectRule) → kept ≡ true → unless kept rule ≡ None
+right kept rule is = ap (λ (b : Bool). unless b rule) is
+
+wrong : (kept : Bool) (rule : ObjectRule) → kept ≡ false → unless kept rule ≡ Some rule
+wrong kept rule is = ap (λ (b : Bool). unless b rule) is
+
+judged_text : (judge : List ℕ → Bool) (p q : CursorView) (text : List ℕ) (fault : ObjectFault) → IsWhole texts p q text → IsContentAt (is_kept (judge text) text) p.at fault
+    → Stopped (Begins (alone (judged judge))) p fault
+judged_text judge p q text fault whole content =
+    wrong_field texts (judged judge) p q text fault (text_field judge) whole
+    (wrong (is_kept (judge text) text) Content content.broken ∙ ap Some (sym content.rule)) content.place
+
+-- a whole text, judged
+pub text_read : (judge : List ℕ → Bool) (p q : CursorView) (text : List ℕ) (r : Result (List ℕ) (Refused ObjectFault)) → IsWhole texts p q text
+    → MatchResult r (λ name. (is_kept (judge text) text ≡ true) × (name ≡ text)) (IfFault (IsContentAt (is_kept (judge text) text) p.at)) → IsFieldRead (judged judge) p q r
+text_read judge p q text (Ok name) whole kept =
+    subst (λ (t : List ℕ). Took (alone (judged judge) t) p q) (sym kept.1)
+    (right_field texts (judged judge) p q text (text_field judge) whole (right (is_kept (judge text) text) Content kept.0))
+text_read judge p q text (Err refused) whole kept =
+    weaker (IsContentAt (is_kept (judge text) text) p.at) (Stopped (Begins (alone (judged judge))) p) refused
+    (λ fault content. judged_text judge p q text fault whole content) kept
+
+-- bytes that end inside a text
+pub text_cut : (judge : List ℕ → Bool) (c : CursorView) (fault : ObjectFault) → IsCut texts c fault → Stopped (Begins (alone (judged judge))) c fault
+text_cut judge c fault cut = cut_field texts (judged judge) c fault (text_field judge) cut
+
+pub count_cut : (few : ℕ → Bool) (c : CursorView) (fault : ObjectFault) → IsCut (numbers 4) c fault → Stopped (Begins (alone (count_field few))) c fault
+count_cut few c fault cut = cut_field (numbers 4) (count_field few) c fault (number_field 4 (λ n. unless (few n) Content)) cut
+
+pub count_wrong : (few : ℕ → Bool) (p q : CursorView) (n : ℕ) (fault : ObjectFault) → IsWhole (numbers 4) p q n → few n ≡ false → fault.rule ≡ Content → fault.at ≡ p.at
+    → Stopped (Begins (alone (count_field few))) p fault
+count_wrong few p q n fault whole broken rule place =
+    wrong_field (numbers 4) (count_field few) p q n fault (number_field 4 (λ m. unless (few m) Content)) whole (wrong (few n) Content broken ∙ ap Some (sym rule)) place
+
+pub count_right : (few : ℕ → Bool) (p q : CursorView) (n : ℕ) → IsWhole (numbers 4) p q n → few n ≡ true → Took (alone (count_field few) n) p q
+count_right few p q n whole kept =
+    right_field (numbers 4) (count_field few) p q n (number_field 4 (λ m. unless (few m) Content)) whole (right (few n) Content kept)
+
+-- what a judged text that was taken keeps
+kept_from : (kept : Bool) (rule : ObjectRule) → is_none (unless kept rule) ≡ true → kept ≡ true
+kept_from true rule is = refl
+kept_from false rule is = absurd cc
+
+pub judge_kept : (judge : List ℕ → Bool) (text : List ℕ) (p q : CursorView) → Took (alone (judged judge) text) p q → (judge text ≡ true) × (is_utf8 text ≡ true)
+judge_kept judge text p q took =
+    and_parts (judge text) (is_utf8 text) (kept_from (is_kept (judge text) text) Content (and_parts (is_none (unless (is_kept (judge text) text) Content)) true took.sound).0)
+
+-- ---- a part of something larger
+
+begins_within : {B C : Type 0} (inner : B → List Field) (outer : C → List Field) (make : B → C) (first : List Field) (rest : B → List Field) → Fit first
+    → ((b : B) → Fit (rest b)) → ((b : B) → outer (make b) ≡ first ++ (inner b ++ rest b)) → (front : List Field) → Begins inner front → Begins outer (first ++ front)
+begins_within inner outer make first rest fit fits are front b = record {
+  whole = make b.whole;
+  fit = subst Fit (sym (are b.whole)) (fit_append first (inner b.whole ++ rest b.whole) fit (fit_append (inner b.whole) (rest b.whole) b.fit (fits b.whole)));
+  behind = b.behind ++ rest b.whole;
+  are =
+      are b.whole ∙ ap (λ (l : List Field). first ++ (l ++ rest b.whole)) b.are ∙ ap (λ (l : List Field). first ++ l) (append_assoc front b.behind (rest b.whole))
+      ∙ sym (append_assoc first front (b.behind ++ rest b.whole));
+}
+
+-- where reading a part stops, reading the whole does; the fields before the part were taken, and what is behind it can be anything that fits
+pub stopped_within : {B C : Type 0} (inner : B → List Field) (outer : C → List Field) (make : B → C) (first : List Field) (rest : B → List Field)
+    → ((b : B) → Fit (rest b)) → ((b : B) → outer (make b) ≡ first ++ (inner b ++ rest b)) → (p q : CursorView) (fault : ObjectFault)
+    → Took first p q → Stopped (Begins inner) q fault → Stopped (Begins outer) p fault
+stopped_within inner outer make first rest fits are p q fault took s =
+    stopped_behind (Begins inner) (Begins outer) first p q fault took (begins_within inner outer make first rest took.fit fits are) s
+
+-- a list with one item more
+pub counted_more : {A : Type 0} (fields : List A → A → List Field) (before after : List A) (n : ℕ) (p q r : CursorView)
+    → (length before ≡ n) × Took (each_of fields [] before) p q → (item : A) × (after ≡ before ++ item ∷ []) × Took (fields before item) q r
+    → (length after ≡ n + 1) × Took (each_of fields [] after) p r
+counted_more {A} fields before after n p q r sofar next = (
+  ap length next.1 ∙ length-append before (next.0 ∷ []) ∙ omega (arith, sofar.0),
+  subst (λ (l : List A). Took (each_of fields [] l) p r) (sym next.1) (took_item fields before next.0 p q r sofar.1 next.2),
+)

@@ -7,3 +7,4 @@ pub mod Decoded
 pub mod Parts
 pub mod Laws
 pub mod Reading
+pub mod ReadFields

@@ -11,6 +11,8 @@ mod laws;
 mod length;
 mod object;
 mod part;
+mod reader;
+mod reader_labels;
 mod texts;
 #[cfg(test)]
 mod tests;

@@ -1,0 +1,66 @@
+-- Fields as they are read, one after another.
+use Rattle.std.specs.Prelude.{◌≡◌, ◌&&◌, ◌==◌, ℕ, ◌+◌, ◌^◌, Bool, List, [], ◌∷◌, ◌++◌, length, nat_le, nat_lt, MatchResult, Result}
+use Rattle.std.specs.List.{list_all}
+use Rattle.std.specs.Option.{is_none}
+use Rattle.std.specs.Ordering.{is_lt}
+use Rattle.faults.specs.Answers.{IfFault}
+use Rattle.faults.specs.declared.refused.Refused.{Refused}
+use Rattle.profile_model.specs.LabelSets.{Label, is_label_name}
+use Rattle.profile_model.specs.Stacks.{name_cmp, stack_cmp}
+use Rattle.profile_model.specs.Sums.{Sample}
+use Rattle.profile_model.specs.TenantPlaces.{wrong_place}
+use Rattle.segment_file.specs.declared.fault.ObjectFault.{ObjectFault}
+use Rattle.segment_file.specs.declared.fault.ObjectRule.TheVariants.{Content}
+use Rattle.segment_file.specs.Fields.{Field, each_of, listed, number, text_of, unless}
+use Rattle.segment_file.specs.Files.{is_frame, label_fields}
+use Rattle.segment_file.specs.Reading.{Begins, BeginsCounted, CursorView, Stopped, Took}
+
+-- one field
+abbrev pub alone : {A : Type 0} → (A → Field) → A → List Field
+alone field item = field item ∷ []
+
+-- a text whose rule is this
+abbrev pub judged : (List ℕ → Bool) → List ℕ → Field
+judged judge text = text_of text (judge text)
+
+-- the count of a list
+abbrev pub count_field : (ℕ → Bool) → ℕ → Field
+count_field few n = number 4 n (unless (few n) Content)
+
+abbrev pub list_fields : {A : Type 0} → (ℕ → Bool) → (List A → A → List Field) → List A → List Field
+list_fields few fields items = listed (few (length items)) fields items
+
+-- ---- what is read
+
+-- the value whose fields stand there, or else where they stop
+abbrev pub IsRead : {A B : Type 0} → (B → List Field) → (A → B) → CursorView → CursorView → Result A (Refused ObjectFault) → Type 0
+IsRead fields said old new result = MatchResult result (λ item. Took (fields (said item)) old new) (IfFault (Stopped (Begins fields) old))
+
+-- the one value
+abbrev pub IsFieldRead : {A : Type 0} → (A → Field) → CursorView → CursorView → Result A (Refused ObjectFault) → Type 0
+IsFieldRead field old new result = IsRead (alone field) (λ item. item) old new result
+
+-- so many items
+abbrev pub AreRead : {A B : Type 0} → ℕ → (List B → B → List Field) → (A → List B) → CursorView → CursorView → Result A (Refused ObjectFault) → Type 0
+AreRead count fields said old new result =
+    MatchResult result (λ items. (length (said items) ≡ count) × Took (each_of fields [] (said items)) old new) (IfFault (Stopped (BeginsCounted count fields) old))
+
+-- one item more
+abbrev pub IsNextRead : {A B : Type 0} → (List B → B → List Field) → List B → List B → CursorView → CursorView → Result A (Refused ObjectFault) → Type 0
+IsNextRead {A} {B} fields before after old new result =
+    MatchResult result (λ _. (item : B) × (after ≡ before ++ item ∷ []) × Took (fields before item) old new) (IfFault (Stopped (Begins (fields before)) old))
+
+-- ---- labels
+
+abbrev pub few_labels : ℕ → Bool
+few_labels n = nat_le n 31
+
+-- the name is above those of the labels before it
+abbrev pub is_above_labels : List Label → List ℕ → Bool
+is_above_labels before name = list_all (λ other. is_lt (name_cmp other.0 name)) before
+
+abbrev pub is_next_name : List Label → List ℕ → Bool
+is_next_name before name = is_label_name name && is_above_labels before name
+
+abbrev pub is_label_value : List ℕ → Bool
+is_label_value value = nat_lt 0 (length value) && nat_le (length value) 2048

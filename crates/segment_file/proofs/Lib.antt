@@ -16,3 +16,4 @@ pub mod ReadAnswers
 pub mod ReadTexts
 pub mod ReadOrder
 pub mod ReadLabels
+pub mod ReadStacks

@@ -29,3 +29,8 @@ no_text true text false is broken = refl
 
 pub text_broken : (sound : Bool) (text : List ℕ) → ¬ (IsUtf8 text) → is_kept sound text ≡ false
 text_broken sound text broken = no_text sound text (is_utf8 text) refl broken
+
+-- an exit by a call's fault, of which something else is said
+pub exit : {A F : Type 0} (r : Result A (Refused F)) (refused : Refused F) (Good : A → Type 0) (Bad Worse : F → Type 0) → IsErrAnd r (λ e. e ≡ refused)
+    → ((fault : F) → Bad fault → Worse fault) → IfFault Bad refused → MatchResult r Good (IfFault Worse)
+exit r refused Good Bad Worse is worse bad = handed r refused Good (IfFault Worse) is (weaker Bad Worse refused worse bad)

@@ -290,9 +290,19 @@ kept_from : (kept : Bool) (rule : ObjectRule) → is_none (unless kept rule) ≡
 kept_from true rule is = refl
 kept_from false rule is = absurd cc
 
+pub sound_text : (judge : List ℕ → Bool) (text : List ℕ) (rest : List Field) → AreSound (judged judge text ∷ rest) → (judge text ≡ true) × (is_utf8 text ≡ true) × AreSound rest
+sound_text judge text rest sound =
+    let both = and_parts (is_none (unless (is_kept (judge text) text) Content)) (list_all (λ (f : Field). is_none f.breaks) rest) sound in
+    let kept = and_parts (judge text) (is_utf8 text) (kept_from (is_kept (judge text) text) Content both.0) in
+    (kept.0, kept.1, both.1)
+
+pub sound_number : (size n : ℕ) (few : Bool) (rest : List Field) → AreSound (number size n (unless few Content) ∷ rest) → (few ≡ true) × AreSound rest
+sound_number size n few rest sound =
+    let both = and_parts (is_none (unless few Content)) (list_all (λ (f : Field). is_none f.breaks) rest) sound in
+    (kept_from few Content both.0, both.1)
+
 pub judge_kept : (judge : List ℕ → Bool) (text : List ℕ) (p q : CursorView) → Took (alone (judged judge) text) p q → (judge text ≡ true) × (is_utf8 text ≡ true)
-judge_kept judge text p q took =
-    and_parts (judge text) (is_utf8 text) (kept_from (is_kept (judge text) text) Content (and_parts (is_none (unless (is_kept (judge text) text) Content)) true took.sound).0)
+judge_kept judge text p q took = let kept = sound_text judge text [] took.sound in (kept.0, kept.1)
 
 -- ---- a part of something larger
 

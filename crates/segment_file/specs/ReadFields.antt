@@ -1,5 +1,5 @@
 -- Fields as they are read, one after another.
-use Rattle.std.specs.Prelude.{◌≡◌, ◌&&◌, ◌==◌, ℕ, ◌+◌, ◌^◌, Bool, List, [], ◌∷◌, ◌++◌, length, nat_le, nat_lt, MatchResult, Result}
+use Rattle.std.specs.Prelude.{◌≡◌, ◌&&◌, ◌==◌, ℕ, ◌+◌, ◌^◌, Bool, true, List, [], ◌∷◌, ◌++◌, length, nat_le, nat_lt, MatchResult, Result}
 use Rattle.std.specs.List.{list_all}
 use Rattle.std.specs.Option.{is_none}
 use Rattle.std.specs.Ordering.{is_lt}
@@ -64,3 +64,23 @@ is_next_name before name = is_label_name name && is_above_labels before name
 
 abbrev pub is_label_value : List ℕ → Bool
 is_label_value value = nat_lt 0 (length value) && nat_le (length value) 2048
+
+-- ---- stacks and values
+
+abbrev pub few_frames : ℕ → Bool
+few_frames n = nat_lt 0 n && nat_le n 1024
+
+-- the stack is above those before it
+abbrev pub is_above_stacks : List Sample → List (List ℕ) → Bool
+is_above_stacks before stack = list_all (λ other. is_lt (stack_cmp other.0 stack)) before
+
+-- a frame that isn't the last of its stack
+abbrev pub inner_frame_fields : List (List ℕ) → List ℕ → List Field
+inner_frame_fields before frame = judged is_frame frame ∷ []
+
+-- the last frame behind these, of a stack above those before it
+abbrev pub is_last_frame : List Sample → List (List ℕ) → List ℕ → Bool
+is_last_frame before frames frame = is_frame frame && is_above_stacks before (frames ++ frame ∷ [])
+
+abbrev pub any_count : ℕ → Bool
+any_count n = true

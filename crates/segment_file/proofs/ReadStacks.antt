@@ -1,11 +1,12 @@
 -- Stacks and their values, read one behind another.
 use Rattle.std.proofs.Common.{◌≡◌, ◌&&◌, ℕ, suc, zero, ◌+◌, ◌-◌, ◌<◌, ◌≤◌, ◌^◌, Bool, true, false, List, [], ◌∷◌, ◌++◌, length, Option, Some, None, Result, Ok, Err, cond, refl, subst, sym, ap, ◌∙◌, arith}
-use Rattle.std.specs.Prelude.{MatchResult, nat_le, nat_lt, unwrap_or}
+use Rattle.std.specs.Prelude.{MatchResult, nat_eq, nat_le, nat_lt, unwrap_or}
 use Rattle.std.specs.BTreeMap.{insert_entry}
 use Rattle.std.specs.List.{All, list_all}
 use Rattle.std.specs.Map.{lookup}
 use Rattle.std.specs.Str.{is_utf8}
 use Rattle.std.proofs.lemmas.Bool.{and_from, and_parts, leb-true, ltb-true}
+use Rattle.std.proofs.lemmas.Bool.Decides.{nat_tests}
 use Rattle.std.proofs.lemmas.List.{append_assoc, append-nil, length-append}
 use Rattle.std.proofs.lemmas.List.Elements.{All-cons, All-nil}
 use Rattle.faults.specs.Answers.{IfFault}
@@ -19,9 +20,9 @@ use Rattle.segment_file.specs.declared.fault.ObjectRule.TheVariants.{Content}
 use Rattle.segment_file.specs.Fields.{AreSound, Field, Fit, each_of, number, text_of, unless}
 use Rattle.segment_file.specs.Files.{frame_fields, is_frame, sample_fields, stack_fields, value_field}
 use Rattle.segment_file.specs.ReadFields.{AreRead, IsRead, alone, any_count, count_field, few_frames, inner_frame_fields, is_above_stacks, is_last_frame, judged, list_fields}
-use Rattle.segment_file.specs.Reading.{Begins, BeginsCounted, CursorView, IsContentAt, IsWhole, Stopped, Took, is_kept, texts}
+use Rattle.segment_file.specs.Reading.{Begins, BeginsCounted, CursorView, IsContentAt, IsCut, IsWhole, Stopped, Took, is_kept, numbers, texts}
 use Rattle.segment_file.proofs.ReadAnswers.{weaker}
-use Rattle.segment_file.proofs.ReadLemmas.{fillers, fit_append, judge_kept, length-fillers, sound_text, stopped_behind, stopped_count, stopped_item, stopped_list, stopped_within, text_read, took_both, took_list, took_nothing}
+use Rattle.segment_file.proofs.ReadLemmas.{count_cut, count_right, cut_field, number_field, sound_number, wrong_field, fillers, fit_append, judge_kept, length-fillers, sound_text, stopped_behind, stopped_count, stopped_item, stopped_list, stopped_within, text_read, took_both, took_list, took_nothing}
 use Rattle.segment_file.proofs.ReadOrder.{new_above, put_last}
 
 -- ---- frames
@@ -148,3 +149,65 @@ last_too_low before frames p q text name fault whole is low rule place =
     let under = ap (λ (t : List ℕ). is_above_stacks before (frames ++ t ∷ [])) (sym is) ∙ low in
     text_read (is_last_frame before frames) p q text (Err (Fault fault)) whole
     (record { broken = last_low (is_frame text) (is_above_stacks before (frames ++ text ∷ [])) (is_utf8 text) under; rule = rule; place = place })
+
+-- ---- values
+
+abbrev is_next : List Sample → ℕ → Bool
+is_next before n = nat_lt 0 n && nat_lt (total_of before + n) (2 ^ 63)
+
+pub value_cut : (before : List Sample) (c : CursorView) (fault : ObjectFault) → IsCut (numbers 8) c fault → Stopped (Begins (alone (value_field before))) c fault
+value_cut before c fault cut = cut_field (numbers 8) (value_field before) c fault (number_field 8 (λ n. unless (is_next before n) Content)) cut
+
+pub value_wrong : (before : List Sample) (p q : CursorView) (n : ℕ) (fault : ObjectFault) → IsWhole (numbers 8) p q n → is_next before n ≡ false
+    → fault.rule ≡ Content → fault.at ≡ p.at → Stopped (Begins (alone (value_field before))) p fault
+value_wrong before p q n fault whole broken rule place =
+    wrong_field (numbers 8) (value_field before) p q n fault (number_field 8 (λ m. unless (is_next before m) Content)) whole
+    (ap (λ (b : Bool). unless b Content) broken ∙ ap Some (sym rule)) place
+
+-- ---- samples
+
+pub sample_at_stack : (before : List Sample) (c : CursorView) (fault : ObjectFault) → Stopped (Begins (stack_fields before)) c fault → Stopped (Begins (sample_fields before)) c fault
+sample_at_stack before c fault s =
+    stopped_within (stack_fields before) (sample_fields before) (λ stack. (stack, 0)) [] (λ stack. alone (value_field before) 0) (λ stack. refl) (λ stack. refl) c c fault (took_nothing c) s
+
+pub sample_at_value : (before : List Sample) (stack : List (List ℕ)) (p q : CursorView) (fault : ObjectFault) → Took (stack_fields before stack) p q
+    → Stopped (Begins (alone (value_field before))) q fault → Stopped (Begins (sample_fields before)) p fault
+sample_at_value before stack p q fault took s =
+    stopped_within (alone (value_field before)) (sample_fields before) (λ value. (stack, value)) (stack_fields before stack) (λ value. []) (λ value. refl) (λ value. refl) p q fault took s
+
+added_last : (before : List Sample) (stack : List (List ℕ)) (value : ℕ) → 0 < value → is_above_stacks before stack ≡ true
+    → with_added before stack value ≡ before ++ (stack, value) ∷ []
+added_last before stack value some above =
+    let nonzero : nat_eq value 0 ≡ false = grind (arith, nat_tests) in
+    let held : value_of before stack ≡ 0 = ap (λ (o : Option ℕ). unwrap_or o 0) (new_above stacks_total before stack above) in
+    let sum : value_of before stack + value ≡ value = omega (arith, held) in
+    ap (λ (b : Bool). cond b before (insert_entry stack_cmp before stack (value_of before stack + value))) nonzero
+    ∙ ap (λ (n : ℕ). insert_entry stack_cmp before stack n) sum ∙ put_last stacks_total before stack value above
+
+pub sample_taken : (before after : List Sample) (stack : List (List ℕ)) (value : ℕ) (p q r : CursorView) → after ≡ with_added before stack value
+    → is_above_stacks before stack ≡ true → Took (stack_fields before stack) p q → Took (alone (value_field before) value) q r
+    → (sample : Sample) × (after ≡ before ++ sample ∷ []) × Took (sample_fields before sample) p r
+sample_taken before after stack value p q r is above first next =
+    let some = and_parts (nat_lt 0 value) (nat_lt (total_of before + value) (2 ^ 63)) (sound_number 8 value (is_next before value) [] next.sound).0 in (
+      (stack, value),
+      is ∙ added_last before stack value (ltb-true 0 value some.0) above,
+      took_both (stack_fields before stack) (alone (value_field before) value) p q r first next,
+    )
+
+empty_sample_fits : (before : List Sample) → Fit (sample_fields before ([], 0))
+empty_sample_fits before = refl
+
+pub samples_at : (count : ℕ) (before : List Sample) (p q : CursorView) (fault : ObjectFault) → length before < count → Took (each_of sample_fields [] before) p q
+    → Stopped (Begins (sample_fields before)) q fault → Stopped (BeginsCounted count sample_fields) p fault
+samples_at count before p q fault short took s = stopped_item sample_fields ([], 0) empty_sample_fits count before short p q fault took s
+
+pub samples_at_count : (c : CursorView) (fault : ObjectFault) → IsCut (numbers 4) c fault → Stopped (Begins (list_fields any_count sample_fields)) c fault
+samples_at_count c fault cut = stopped_count any_count sample_fields ([], 0) empty_sample_fits c fault (count_cut any_count c fault cut)
+
+pub samples_read : (count : ℕ) (p q r : CursorView) (result : Result (List Sample) (Refused ObjectFault)) → IsWhole (numbers 4) p q count
+    → AreRead count sample_fields (λ sums. sums) q r result → IsRead (list_fields any_count sample_fields) (λ sums. sums) p r result
+samples_read count p q r (Ok sums) whole read =
+    took_list any_count sample_fields sums p q r (subst (λ (n : ℕ). Took (alone (count_field any_count) n) p q) (sym read.0) (count_right any_count p q count whole refl)) read.1
+samples_read count p q r (Err refused) whole read =
+    weaker (Stopped (BeginsCounted count sample_fields) q) (Stopped (Begins (list_fields any_count sample_fields)) p) refused
+    (λ fault s. stopped_list any_count sample_fields count p q fault (count_right any_count p q count whole refl) s) read

@@ -17,3 +17,4 @@ pub mod ReadTexts
 pub mod ReadOrder
 pub mod ReadLabels
 pub mod ReadStacks
+pub mod ReadProfiles

@@ -1,18 +1,20 @@
 -- Fields as they are read, one after another.
-use Rattle.std.specs.Prelude.{◌≡◌, ◌&&◌, ◌==◌, ℕ, ◌+◌, ◌^◌, Bool, true, List, [], ◌∷◌, ◌++◌, length, nat_le, nat_lt, MatchResult, Result}
+use Rattle.std.specs.Prelude.{◌≡◌, ◌&&◌, ◌==◌, ℕ, ◌+◌, ◌^◌, Bool, true, List, [], ◌∷◌, ◌++◌, length, nat_le, nat_lt, not, MatchResult, None, Result}
 use Rattle.std.specs.List.{list_all}
 use Rattle.std.specs.Option.{is_none}
 use Rattle.std.specs.Ordering.{is_lt}
 use Rattle.faults.specs.Answers.{IfFault}
 use Rattle.faults.specs.declared.refused.Refused.{Refused}
+use Rattle.profile_model.specs.Kinds.{is_colon}
 use Rattle.profile_model.specs.LabelSets.{Label, is_label_name}
 use Rattle.profile_model.specs.Stacks.{name_cmp, stack_cmp}
 use Rattle.profile_model.specs.Sums.{Sample}
 use Rattle.profile_model.specs.TenantPlaces.{wrong_place}
+use Rattle.profile_model.specs.declared.kind.ProfileType.{ProfileType}
 use Rattle.segment_file.specs.declared.fault.ObjectFault.{ObjectFault}
-use Rattle.segment_file.specs.declared.fault.ObjectRule.TheVariants.{Content}
+use Rattle.segment_file.specs.declared.fault.ObjectRule.TheVariants.{Content, Form}
 use Rattle.segment_file.specs.Fields.{Field, each_of, listed, number, text_of, unless}
-use Rattle.segment_file.specs.Files.{is_frame, label_fields}
+use Rattle.segment_file.specs.Files.{File, FileProfile, FilePush, IsFile, file_fields, is_frame, label_fields, mark_field, profile_fields, push_fields}
 use Rattle.segment_file.specs.Reading.{Begins, BeginsCounted, CursorView, Stopped, Took}
 
 -- one field
@@ -84,3 +86,57 @@ is_last_frame before frames frame = is_frame frame && is_above_stacks before (fr
 
 abbrev pub any_count : ℕ → Bool
 any_count n = true
+
+-- ---- profiles and pushes
+
+-- the five parts of a type, whatever rules they break
+pub record FileKind : Type 0 where
+  pub name : List ℕ
+  pub sample_type : List ℕ
+  pub sample_unit : List ℕ
+  pub period_type : List ℕ
+  pub period_unit : List ℕ
+
+abbrev pub is_part : List ℕ → Bool
+is_part part = list_all (λ b. not (is_colon b)) part
+
+abbrev pub kind_fields : FileKind → List Field
+kind_fields kind =
+    judged is_part kind.name ∷ judged is_part kind.sample_type ∷ judged is_part kind.sample_unit ∷ judged is_part kind.period_type ∷ judged is_part kind.period_unit ∷ []
+
+abbrev pub kind_said : ProfileType → FileKind
+kind_said kind = record {
+  name = kind.name;
+  sample_type = kind.sample_type;
+  sample_unit = kind.sample_unit;
+  period_type = kind.period_type;
+  period_unit = kind.period_unit;
+}
+
+abbrev pub time_field : ℕ → Field
+time_field ms = number 8 ms None
+
+abbrev pub is_tenant : List ℕ → Bool
+is_tenant tenant = is_none (wrong_place tenant)
+
+abbrev pub few_profiles : ℕ → Bool
+few_profiles n = nat_le n 4096
+
+abbrev pub each_profile : List FileProfile → FileProfile → List Field
+each_profile before profile = profile_fields profile
+
+abbrev pub each_push : List FilePush → FilePush → List Field
+each_push before push = push_fields push
+
+-- ---- the file
+
+-- the fields of a whole file begin so
+pub record BeginsFile (front : List Field) : Type 0 where
+  pub file : File
+  pub shape : IsFile file
+  pub behind : List Field
+  pub are : file_fields file ≡ front ++ behind
+
+-- the fields before the pushes
+abbrev pub head_fields : List ℕ → ℕ → ℕ → List Field
+head_fields mark lo hi = mark_field mark ∷ number 8 lo None ∷ number 8 hi (unless (nat_lt lo hi) Form) ∷ []

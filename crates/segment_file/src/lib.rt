@@ -13,6 +13,7 @@ mod object;
 mod part;
 mod reader;
 mod reader_labels;
+mod reader_profiles;
 mod reader_samples;
 mod texts;
 #[cfg(test)]

@@ -18,3 +18,6 @@ pub mod ReadOrder
 pub mod ReadLabels
 pub mod ReadStacks
 pub mod ReadProfiles
+pub mod ReadFiles
+pub mod ReadKept
+pub mod ReadDecoded

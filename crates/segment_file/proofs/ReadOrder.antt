@@ -15,7 +15,7 @@ use Rattle.std.proofs.lemmas.Map.Keys.{sorted_head, sorted_tail}
 abbrev pub is_above_all : {K V : Type 0} → (K → K → Ordering) → List (K × V) → K → Bool
 is_above_all cmp before key = list_all (λ other. is_lt (cmp other.0 key)) before
 
-less_from : (o : Ordering) → is_lt o ≡ true → o ≡ Less
+pub less_from : (o : Ordering) → is_lt o ≡ true → o ≡ Less
 less_from Less is = refl
 less_from Equal is = absurd cc
 less_from Greater is = absurd cc

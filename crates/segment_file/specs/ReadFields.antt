@@ -137,6 +137,12 @@ pub record BeginsFile (front : List Field) : Type 0 where
   pub behind : List Field
   pub are : file_fields file ≡ front ++ behind
 
+abbrev pub lo_field : ℕ → Field
+lo_field lo = number 8 lo None
+
+abbrev pub hi_field : ℕ → ℕ → Field
+hi_field lo hi = number 8 hi (unless (nat_lt lo hi) Form)
+
 -- the fields before the pushes
 abbrev pub head_fields : List ℕ → ℕ → ℕ → List Field
-head_fields mark lo hi = mark_field mark ∷ number 8 lo None ∷ number 8 hi (unless (nat_lt lo hi) Form) ∷ []
+head_fields mark lo hi = mark_field mark ∷ lo_field lo ∷ hi_field lo hi ∷ []

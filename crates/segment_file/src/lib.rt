@@ -6,6 +6,7 @@
 
 mod encode;
 mod cursor;
+mod decoding;
 mod fault;
 mod laws;
 mod length;
@@ -14,11 +15,13 @@ mod part;
 mod reader;
 mod reader_labels;
 mod reader_profiles;
+mod reader_pushes;
 mod reader_samples;
 mod texts;
 #[cfg(test)]
 mod tests;
 
+pub use decoding::decode;
 pub use fault::{ObjectFault, ObjectRule};
 pub use laws::{bytes_have_one_fault, light_pushes_have_room, objects_have_one_spelling};
 pub use object::Object;

@@ -4,9 +4,9 @@
 //! its count before it.
 #![tactic(auto)]
 
-mod encode;
 mod cursor;
 mod decoding;
+mod encode;
 mod fault;
 mod laws;
 mod length;

@@ -1,5 +1,3 @@
-pub mod DigitLemmas
 pub mod ParameterLemmas
 pub mod ScanLemmas
 pub mod SplitNameLemmas
-pub mod SplitLemmas

@@ -1,5 +1,4 @@
 pub mod Parameters
-pub mod Digits
 pub mod Times
 pub mod SeriesNames
 pub mod SeriesScan

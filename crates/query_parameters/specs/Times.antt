@@ -2,7 +2,7 @@
 use Rattle.std.specs.Prelude.{◌==◌, ℕ, ◌-◌, ◌*◌, ◌/◌, List, length, take, drop, codes, nat_eq, nat_le, slice_index, Option, Some, None, option_map, option_and_then, if◌then◌else◌}
 use Rattle.std.specs.Cmp.Lexicographic.{pointwise}
 use Rattle.std.specs.List.{starts_with}
-use Rattle.query_parameters.specs.Digits.{number_of}
+use Rattle.wire_forms.specs.Digits.{number_of}
 
 -- the last millisecond of the year 9999
 abbrev pub last_ms : ℕ

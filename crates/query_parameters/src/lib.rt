@@ -1,7 +1,6 @@
 //! What the parameters of a query string say, as far as they don't depend on a route.
 #![tactic(auto)]
 
-mod digits;
 mod parameters;
 mod scan;
 mod series_name;
@@ -9,7 +8,6 @@ mod series_name;
 mod tests;
 mod times;
 
-pub use digits::read_digits;
 pub use parameters::{Parameter, first_value, read_parameters};
 pub use series_name::{MAX_SERVICE_BYTES, NameFault, SeriesName, read_series_name};
 pub use times::{MAX_TIME_MS, read_time};

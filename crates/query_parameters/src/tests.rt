@@ -72,19 +72,6 @@ fn a_time_is_told_from_now(rt: HostRuntime) {
     }
 }
 
-#[test]
-fn a_number_has_digits_alone_and_so_many(rt: HostRuntime) {
-    assert_eq!(rt; read_digits("007", 3), Some(7));
-    assert_eq!(rt; read_digits("0007", 3), None);
-    assert_eq!(rt;
-        read_digits("9999999999999999999", 19),
-        Some(9_999_999_999_999_999_999)
-    );
-    assert_eq!(rt; read_digits("+7", 3), None);
-    assert_eq!(rt; read_digits("", 3), None);
-    assert_eq!(rt; read_digits("7", 0), None);
-}
-
 fn is_read_as(alloc: Global, text: &str, service: &str, pairs: &[(&str, &str)]) -> bool {
     match read_series_name(alloc, text) {
         Ok(name) => name.service == service && name.pairs.as_slice() == pairs,

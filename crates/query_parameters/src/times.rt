@@ -2,7 +2,7 @@
 ghost use Rattle.std.specs.Prelude.{◌≡◌, ◌<◌, ◌^◌, ◌≤◌, IfSome};
 ghost use Rattle.query_parameters.specs.Times.{last_ms, moment_of, span_of, time_of, unit_of};
 
-use crate::digits::number_of;
+use wire_forms::digits_of;
 
 /// The last millisecond of the year 9999.
 pub const MAX_TIME_MS: u64 = 253_402_300_799_999;
@@ -28,7 +28,7 @@ fn read_span(text: &[u8]) -> Option<u64>
     ensures { result ≡ span_of text.now }
 {
     let (unit, digits) = text.split_last()?;
-    let count = number_of(digits, 9)?;
+    let count = digits_of(digits, 9)?;
     let unit = unit_of(*unit)?;
     Some(count * unit)
 }
@@ -51,7 +51,7 @@ fn read_moment(digits: &[u8]) -> Option<u64>
     ensures moment { result ≡ moment_of digits.now }
     ensures bound { IfSome result (λ time. time < 10 ^ 13) }
 {
-    let number = number_of(digits, 19)?;
+    let number = digits_of(digits, 19)?;
     Some(match digits.len() {
         0..=10 => number * 1_000,
         11..=13 => number,

@@ -2,7 +2,7 @@ use Rattle.std.proofs.Common.{rules, ◌≡◌, ◌∙◌, ◌==◌, ◌++◌, �
 use Rattle.std.specs.List.{slice_split}
 use Rattle.std.proofs.lemmas.List.{map-append}
 use Rattle.query_parameters.specs.SeriesScan.{split_pair}
-use Rattle.query_parameters.proofs.SplitLemmas.{part_turn, part_end}
+use Rattle.wire_forms.proofs.SplitLemmas.{part_turn, part_end}
 use Rattle.query_parameters.proofs.series_name.split_pieces.Goals as goal
 
 abbrev Lent : Type 0

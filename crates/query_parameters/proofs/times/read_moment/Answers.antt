@@ -1,5 +1,5 @@
 use Rattle.std.proofs.Common.{arith, length}
-use Rattle.query_parameters.proofs.DigitLemmas.{power-le}
+use Rattle.wire_forms.proofs.DigitLemmas.{power-le}
 use Rattle.query_parameters.proofs.times.read_moment.Goals as goal
 
 pub returns-in-11-to-13-clause-bound : goal.returns-in-11-to-13-clause-bound

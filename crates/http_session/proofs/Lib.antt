@@ -1,5 +1,4 @@
 pub mod BufferLemmas
-pub mod DigitLemmas
 pub mod EndingLemmas
 pub mod JoinLemmas
 pub mod NewlineLemmas

@@ -1,23 +1,22 @@
 -- How long a request's body is, and whether its connection closes after it (RFC 9112, sections 6 and 9.6).
-use Rattle.std.specs.Prelude.{◌≡◌, ℕ, ◌<◌, ◌++◌, ◌==◌, ◌||◌, ◌&&◌, Bool, List, [], ◌∷◌, length, nat_le, Option, Some, None, Result, Ok, Err, if◌then◌else◌, codes, nat_eq}
-use Rattle.std.specs.Char.{is_ascii_digit}
+use Rattle.std.specs.Prelude.{◌≡◌, ℕ, ◌<◌, ◌++◌, ◌==◌, ◌||◌, Bool, List, [], ◌∷◌, length, nat_le, Option, Some, None, Result, Ok, Err, if◌then◌else◌, codes, nat_eq}
 use Rattle.std.specs.Cmp.Lexicographic.{pointwise}
-use Rattle.std.specs.List.{list_all, list_any, slice_split}
-use Rattle.std.specs.Str.Parse.{digits_value}
+use Rattle.std.specs.List.{list_any, slice_split}
 use Rattle.httparse.specs.Ascii.{comma}
 use Rattle.httparse.specs.Grammar.{RequestHead, trim_ows}
+use Rattle.wire_forms.specs.Digits.{number_of}
 use Rattle.http_session.specs.Heads.{is_same_text, headers_of, all_named, first_named}
 use Rattle.http_session.specs.declared.bad_request.BadRequest.{BadRequest}
 use Rattle.http_session.specs.declared.bad_request.BadRequest.TheVariants.{Malformed, BodyTooLarge, Chunked}
 
--- 1 to 19 digits
-abbrev pub is_length : List ℕ → Bool
-is_length text = nat_le 1 (length text) && nat_le (length text) 19 && list_all is_ascii_digit text
+-- the number of a Content-Length as a length: at most 8,388,608
+abbrev pub length_of : Option ℕ → Result ℕ BadRequest
+length_of None = Err Malformed
+length_of (Some number) = if nat_le number 8388608 then Ok number else Err BodyTooLarge
 
--- the length that a Content-Length says, at most 8,388,608
+-- the length that a Content-Length says, in 1 to 19 digits
 abbrev pub length_in : List ℕ → Result ℕ BadRequest
-length_in text =
-    if is_length text then (if nat_le (digits_value 10 text) 8388608 then Ok (digits_value 10 text) else Err BodyTooLarge) else Err Malformed
+length_in text = length_of (number_of 19 text)
 
 -- The body's length, by the first Transfer-Encoding and all of Content-Length. Of several faults that of
 -- the form comes before that of the size.

@@ -1,17 +1,16 @@
 //! How long a request's body is, and whether its connection closes after it.
-ghost use Rattle.std.specs.Prelude.{◌≡◌, ◌-◌, ◌^◌, ℕ, List, min, length, map, reverse, All, IsTrue, codes};
-ghost use Rattle.std.specs.Char.{is_ascii_digit};
-ghost use Rattle.std.specs.List.{list_all, list_any};
-ghost use Rattle.std.specs.Str.Parse.{digits_value};
+ghost use Rattle.std.specs.Prelude.{◌≡◌, ℕ, List, length, map, reverse, All, codes};
+ghost use Rattle.std.specs.List.{list_any};
 ghost use Rattle.httparse.specs.Grammar.{skip_ows, trim_ows};
 ghost use Rattle.httparse.specs.Spans.{IsHeaderWithin, header_bytes};
 ghost use Rattle.http_session.specs.Heads.{all_named};
 ghost use Rattle.http_session.specs.Named.{IsNamed};
-ghost use Rattle.http_session.specs.Framing.{is_length as is_length_text, length_in, length_by, body_length_of, is_close as is_close_member, has_close};
+ghost use Rattle.http_session.specs.Framing.{length_in, length_by, body_length_of, is_close as is_close_member, has_close};
 
 use crate::bad_request::BadRequest;
 use crate::head::{Named, find_header, first_header, only_header};
 use httparse::spans::HeaderSpan;
+use wire_forms::digits_of;
 
 // The longest body that is read.
 const BODY_LIMIT: u64 = 8_388_608;
@@ -54,41 +53,11 @@ fn coded_body(coding: &[u8], lengths: Named<'_>) -> BadRequest
 fn read_length(text: &[u8]) -> Result<usize, BadRequest>
     ensures { result ≡ length_in text.now }
 {
-    if !is_length(text) {
-        return Err(BadRequest::Malformed);
+    match digits_of(text, LENGTH_DIGITS) {
+        Some(length) if length <= BODY_LIMIT => Ok(length as usize),
+        Some(_) => Err(BadRequest::BodyTooLarge),
+        None => Err(BadRequest::Malformed),
     }
-    let length = decimal_value(text);
-    if length <= BODY_LIMIT {
-        Ok(length as usize)
-    } else {
-        Err(BadRequest::BodyTooLarge)
-    }
-}
-
-fn is_length(text: &[u8]) -> bool
-    ensures { result ≡ is_length_text text.now }
-{
-    1 <= text.len() && text.len() <= LENGTH_DIGITS && all_digits(text)
-}
-
-fn all_digits(text: &[u8]) -> bool
-    ensures { result ≡ list_all is_ascii_digit text.now }
-{
-    text.iter().all(|byte| byte.is_ascii_digit())
-}
-
-// The number that the digits write, or the largest where it is larger.
-fn decimal_value(digits: &[u8]) -> u64
-    requires { IsTrue (list_all is_ascii_digit digits.now) }
-    ensures { result ≡ min (digits_value 10 digits.now) (2 ^ 64 - 1) }
-{
-    let mut value: u64 = 0;
-    for digit in digits {
-        value = value
-            .saturating_mul(10)
-            .saturating_add(u64::from(digit.saturating_sub(b'0')));
-    }
-    value
 }
 
 /// Whether a header of Connection has the member `close`.

@@ -6,11 +6,12 @@ use Rattle.std.specs.Str.{IsUtf8, IsValidUpTo}
 use Rattle.std.specs.Str.Parse.{digits_value}
 use Rattle.std.proofs.lemmas.List.Elements.{All-head, All-tail, filter-append}
 use Rattle.std.proofs.lemmas.Str.{utf8_valid_len-IsValidUpTo}
+use Rattle.wire_forms.specs.Gzip.{IsGzip}
 use Rattle.profile_model.specs.Limits.{most_frame_bytes, total_bound}
 use Rattle.profile_model.specs.Stacks.{IsFrame, IsStack}
 use Rattle.profile_model.specs.Sums.{Sample, total_of, sums_of}
 use Rattle.folded_reader.specs.Lines.{frames_of, IsCutAtLastSpace, IsCount, Says, IsSample, SaysNothing, SaysNoStack, AreNoStack, PassesLimit, IsFaultOfLine}
-use Rattle.folded_reader.specs.Folded.{filled, lines_of, AreSamples, IsSumOf, IsFirstFault, IsGzip, IsText, IsRead}
+use Rattle.folded_reader.specs.Folded.{filled, lines_of, AreSamples, IsSumOf, IsFirstFault, IsText, IsRead}
 use Rattle.folded_reader.specs.declared.line.LineForm.{LineForm}
 use Rattle.folded_reader.specs.declared.line.LineForm.TheVariants.{Counted, Bare}
 use Rattle.folded_reader.specs.declared.fault.FoldedFault.{FoldedFault}

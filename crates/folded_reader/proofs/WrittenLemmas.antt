@@ -15,12 +15,13 @@ use Rattle.std.proofs.lemmas.List.Elements.{All-nil, All-cons, All-head, All-tai
 use Rattle.std.proofs.lemmas.List.Splits.{slice_split_none, slice_split_at}
 use Rattle.std.proofs.lemmas.Str.{IsUtf8-append, IsUtf8-nil, IsUtf8-from_ascii}
 use Rattle.std.proofs.lemmas.Str.Parse.{digit_at}
+use Rattle.wire_forms.specs.Gzip.{IsGzip}
 use Rattle.profile_model.specs.Limits.{total_bound}
 use Rattle.profile_model.specs.Stacks.{stack_cmp}
 use Rattle.profile_model.specs.StackOrder.{stacks_total}
 use Rattle.profile_model.specs.Sums.{Sample, total_of, value_of}
 use Rattle.folded_reader.specs.Lines.{frames_of, IsSample}
-use Rattle.folded_reader.specs.Folded.{filled, lines_of, IsGzip}
+use Rattle.folded_reader.specs.Folded.{filled, lines_of}
 use Rattle.folded_reader.specs.Written.{written_byte, written_stack, written_line, written_text}
 use Rattle.folded_reader.specs.Laws.{IsPlain, IsReadBack}
 use Rattle.folded_reader.specs.declared.line.LineForm.TheVariants.{Counted}

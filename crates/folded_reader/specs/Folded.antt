@@ -1,7 +1,8 @@
 -- What a body of folded text says.
-use Rattle.std.specs.Prelude.{◌≡◌, ◌==◌, ℕ, ◌+◌, ◌<◌, List, [], ◌∷◌, ◌++◌, length, filter, nat_lt, nat_eq, IsTrue, Result, Ok, Err}
-use Rattle.std.specs.List.{AllZip, slice_split, starts_with}
+use Rattle.std.specs.Prelude.{◌≡◌, ◌==◌, ℕ, ◌+◌, ◌<◌, List, ◌∷◌, ◌++◌, length, filter, nat_lt, Result, Ok, Err}
+use Rattle.std.specs.List.{AllZip, slice_split}
 use Rattle.std.specs.Str.{IsUtf8, IsValidUpTo}
+use Rattle.wire_forms.specs.Gzip.{IsGzip}
 use Rattle.profile_model.specs.Limits.{total_bound}
 use Rattle.profile_model.specs.Sums.{Sample, total_of, sums_of}
 use Rattle.folded_reader.specs.Lines.{IsSample, IsFaultOfLine}
@@ -40,10 +41,6 @@ pub record IsFirstFault (form : LineForm) (lines : List (List ℕ)) (fault : Fol
   pub said : AreSamples form before samples
   pub has_bytes : 0 < length line
   pub here : IsFaultOfLine form (length before + 1) (total_of samples) line fault
-
--- the body begins as gzip does (RFC 1952)
-abbrev pub IsGzip : List ℕ → Type 0
-IsGzip body = IsTrue (starts_with nat_eq body (0x1F ∷ 0x8B ∷ []))
 
 -- the body is text
 pub record IsText (body : List ℕ) : Type 0 where

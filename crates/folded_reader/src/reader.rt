@@ -13,9 +13,7 @@ use crate::line::{LineForm, cut};
 use faults::Refused;
 use profile_model::{AddFault, StackSums};
 use std::alloc::Global;
-
-/// How gzip begins.
-const GZIP: [u8; 2] = [0x1F, 0x8B];
+use wire_forms::begins_as_gzip;
 
 /// The sums of a body whose lines are a stack, a space and a count: the folded stacks of Brendan Gregg's flame graph tools.
 /// A stack's frames stand from the root, joined by `;`. A line without bytes says nothing, equal stacks are summed,
@@ -36,7 +34,7 @@ pub fn read_lines(alloc: Global, bytes: &[u8]) -> Result<StackSums, Refused<Fold
 fn read(alloc: Global, bytes: &[u8], form: LineForm) -> Result<StackSums, Refused<FoldedFault>>
     ensures { IfAnswered (IsRead form bytes.now) result }
 {
-    if bytes.starts_with(&GZIP) {
+    if begins_as_gzip(bytes) {
         return Err(Refused::Fault(FoldedFault::Compressed));
     }
     match str::from_utf8(bytes) {

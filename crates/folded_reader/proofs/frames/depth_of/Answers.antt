@@ -6,7 +6,7 @@ use Rattle.std.proofs.lemmas.List.Splits.{length-slice_split}
 use Rattle.profile_model.specs.Limits.{most_frame_bytes}
 use Rattle.folded_reader.specs.Lines.{frames_of}
 use Rattle.folded_reader.proofs.FrameLemmas.{Any-push, TellsLong-push, stack_of, empty_from_test, named_from_test}
-use Rattle.folded_reader.proofs.SplitLemmas.{part_turn, part_end}
+use Rattle.wire_forms.proofs.SplitLemmas.{part_turn, part_end}
 use Rattle.folded_reader.proofs.frames.depth_of.Goals as goal
 use Rattle.folded_reader.proofs.frames.depth_of.Goals.{then-frame-gt-MAX_FRAME_BYTES, else-frame-gt-MAX_FRAME_BYTES}
 

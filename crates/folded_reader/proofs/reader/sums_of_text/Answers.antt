@@ -2,7 +2,7 @@ use Rattle.std.proofs.Common.{◌+◌, take, length, subst, rules, arith, lit<}
 use Rattle.std.proofs.lemmas.List.{length_push}
 use Rattle.std.proofs.lemmas.Result.{err_from_is_err_and}
 use Rattle.folded_reader.specs.Folded.{IsSumOf, lines_of}
-use Rattle.folded_reader.proofs.SplitLemmas.{part_turn, part_end}
+use Rattle.wire_forms.proofs.SplitLemmas.{part_turn, part_end}
 use Rattle.folded_reader.proofs.FrameLemmas.{empty_from_test, named_from_test}
 use Rattle.faults.proofs.AnswerLemmas.{IfFault-weaker}
 use Rattle.folded_reader.proofs.ReaderLemmas.{skipped, taken, first_fault}

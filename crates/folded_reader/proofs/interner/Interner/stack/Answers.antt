@@ -1,6 +1,6 @@
 use Rattle.std.proofs.Common.{rules, ◌∙◌, lit<}
 use Rattle.std.specs.Arc.{arc_slice_items}
-use Rattle.folded_reader.proofs.SplitLemmas.{part_turn, part_end}
+use Rattle.wire_forms.proofs.SplitLemmas.{part_turn, part_end}
 use Rattle.folded_reader.proofs.FrameLemmas.{read_stack}
 use Rattle.folded_reader.proofs.interner.Interner.stack.Goals as goal
 

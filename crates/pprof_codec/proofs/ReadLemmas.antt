@@ -1,6 +1,7 @@
 -- From judged parts to what reading a pprof answers.
-use Rattle.std.proofs.Common.{◌≡◌, inr, ℕ, Bool, true, false, List, [], Result, Ok, Err, sym, ◌∙◌}
-use Rattle.std.specs.Prelude.{map, IsTrue, Vec}
+use Rattle.std.proofs.Common.{◌≡◌, inr, ℕ, List, [], Result, Ok, Err}
+use Rattle.std.specs.Prelude.{map, Vec}
+use Rattle.wire_forms.specs.Gzip.{IsGzip}
 use Rattle.faults.specs.Answers.{IfAnswered, IfFault}
 use Rattle.faults.specs.declared.refused.Refused.{Refused}
 use Rattle.faults.specs.declared.refused.Refused.TheVariants.{Fault, Memory}
@@ -11,12 +12,9 @@ use Rattle.pprof_codec.specs.declared.base.Base.{Base}
 use Rattle.pprof_codec.specs.declared.fault.PprofFault.{PprofFault}
 use Rattle.pprof_codec.specs.Profiles.{held_of, profiles_of}
 use Rattle.pprof_codec.specs.Checks.{judged_faults, weight_faults, faults_of}
-use Rattle.pprof_codec.specs.Read.{IsGzip, IsReadPprof}
+use Rattle.pprof_codec.specs.Read.{IsReadPprof}
 use Rattle.pprof_codec.specs.Tables.{IsFirst, Judges}
 use Rattle.pprof_codec.proofs.JudgedLemmas.{Leads, weight-leads, faults-none}
-
-pub not-begun : (b c : Bool) → b ≡ c → b ≡ false → ¬ (IsTrue c)
-not-begun b c same fails begins = let differ : true ≡ false = sym begins ∙ sym same ∙ fails in cc
 
 module _ (base : Base) (bytes : List ℕ) (pprof : Pprof) (plain : ¬ (IsGzip bytes)) (spelled : IsReadMessage bytes (Ok pprof)) where
   -- a part of the checks has a fault

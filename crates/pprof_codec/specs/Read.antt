@@ -1,6 +1,6 @@
 -- What reading a pprof answers.
-use Rattle.std.specs.Prelude.{◌≡◌, ◌⊎◌, ℕ, List, [], ◌∷◌, map, nat_eq, IsTrue, Some, Result, Ok, Err, Vec}
-use Rattle.std.specs.List.{starts_with}
+use Rattle.std.specs.Prelude.{◌≡◌, ◌⊎◌, ℕ, List, [], map, Some, Result, Ok, Err, Vec}
+use Rattle.wire_forms.specs.Gzip.{IsGzip}
 use Rattle.profile_model.specs.declared.profile.Profile.{Profile}
 use Rattle.pprof_message.specs.declared.fault.MessageFault.TheVariants as message
 use Rattle.pprof_message.specs.Pprof.{Pprof}
@@ -10,10 +10,6 @@ use Rattle.pprof_codec.specs.declared.fault.PprofFault.{PprofFault}
 use Rattle.pprof_codec.specs.declared.fault.PprofFault.TheVariants.{Broken, Compressed}
 use Rattle.pprof_codec.specs.Profiles.{held_of, profiles_of}
 use Rattle.pprof_codec.specs.Checks.{faults_of, first_of}
-
--- the bytes begin as gzip does (RFC 1952)
-abbrev pub IsGzip : List ℕ → Type 0
-IsGzip bytes = IsTrue (starts_with nat_eq bytes (0x1F ∷ 0x8B ∷ []))
 
 -- the profiles of the message that the bytes spell, which has no fault
 pub record AreProfilesOf (base : Base) (bytes : List ℕ) (profiles : List Profile) : Type 0 where

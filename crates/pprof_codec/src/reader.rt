@@ -12,9 +12,7 @@ use faults::Refused;
 use pprof_message::{MessageFault, read_message};
 use profile_model::Profile;
 use std::alloc::Global;
-
-/// How gzip begins.
-const GZIP: [u8; 2] = [0x1F, 0x8B];
+use wire_forms::begins_as_gzip;
 
 /// The profiles of a pprof (its `profile.proto`, uncompressed): one for each sample type, in order. Equal stacks
 /// are summed, values of 0 and the samples' labels are dropped. The error is the first fault in the order of the checks.
@@ -27,7 +25,7 @@ pub fn read_pprof(
     ensures few { IfOk result (λ profiles. length profiles.items ≤ most_profiles) }
     ensures light { IfOk result (λ profiles. sum_by profile_weight profiles.items ≤ most_weight) }
 {
-    if bytes.starts_with(&GZIP) {
+    if begins_as_gzip(bytes) {
         return Err(Refused::Fault(PprofFault::Compressed));
     }
     let message = match read_message(alloc, bytes) {

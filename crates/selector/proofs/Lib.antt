@@ -9,5 +9,7 @@ pub mod MatcherLemmas
 pub mod InsideLemmas
 pub mod SelectorLemmas
 pub mod SeenLemmas
+pub mod VerdictLemmas
+pub mod HeldLemmas
 pub mod MeaningLemmas
 pub mod AnswerLemmas

@@ -1,6 +1,6 @@
 -- The labels that matchers see, and whether each holds.
-use Rattle.std.proofs.Common.{◌≡◌, ℕ, Bool, true, false, cond, List, [], ◌∷◌, refl, sym, ap, ◌∙◌, subst, Option, Some, None}
-use Rattle.std.specs.Prelude.{codes, nat_eq}
+use Rattle.std.proofs.Common.{◌≡◌, ℕ, Bool, true, false, cond, List, [], ◌∷◌, refl, sym, ap, ◌∙◌, subst, Option, Some, None, Result, Ok, Err}
+use Rattle.std.specs.Prelude.{codes, nat_eq, IfOk, MatchResult}
 use Rattle.std.specs.BTreeMap.{insert_entry}
 use Rattle.std.specs.Cmp.Lexicographic.{pointwise, bytes_decides, texts_ties}
 use Rattle.std.specs.Option.{unwrap_or}
@@ -91,3 +91,9 @@ some_value labels q value is = ap (λ (found : Option (List ℕ)). unwrap_or fou
 
 pub no_value : (labels : List Label) (q : List ℕ) → label_of labels q ≡ None → value_of labels q ≡ []
 no_value labels q is = ap (λ (found : Option (List ℕ)). unwrap_or found []) is
+
+-- a copy of what is equal to a value
+pub copied : {E : Type 0} (result : Result (List ℕ) E) (from value : List ℕ) (P : E → Type 0) → MatchResult result (λ copy. copy ≡ from) P → from ≡ value
+    → IfOk result (λ copy. copy ≡ value)
+copied (Ok copy) from value P is same = is ∙ same
+copied (Err refused) from value P is same = tt

@@ -2,6 +2,7 @@ pub mod Matching
 pub mod Grammar
 pub mod Patterns
 pub mod Stored
+pub mod Tests
 pub mod Matchers
 pub mod Read
 pub mod Building

@@ -3,6 +3,7 @@
 
 mod fault;
 mod inside;
+mod judge;
 mod laws;
 mod matcher;
 mod matchers;

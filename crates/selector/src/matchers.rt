@@ -1,20 +1,23 @@
 // A selector's matchers, with their patterns built.
 ghost use Rattle.std.specs.Prelude.{◌≡◌, ◌≢◌, ◌≤◌, ℕ, Bool, List, IfOk, MatchOption, MatchResult, map, length, string_bytes, true};
 ghost use Rattle.std.specs.Arc.{arc_value};
+ghost use Rattle.std.specs.List.{list_all};
 ghost use Rattle.faults.specs.Answers.{IfFault, IsMapped};
-ghost use Rattle.selector.specs.Matching.{passes, holds, seen_labels};
-ghost use Rattle.selector.specs.Matchers.{matching_of, operator_of, asked_of};
+ghost use Rattle.selector.specs.Matching.{passes, holds, seen_labels, value_of};
+ghost use Rattle.selector.specs.Matchers.{matching_of};
+ghost use Rattle.selector.specs.Tests.{operator_of, asked_of};
 ghost use Rattle.selector.specs.Read.{AreBuilt, ForPattern, ForPatterns, OfPattern};
 ghost use Rattle.selector.specs.Patterns.{IsWellFormed};
 ghost use Rattle.selector.specs.Building.{IsNew, IsUnbuilt, IsBuildFault};
 ghost use Rattle.selector.specs.Placed.{fault_of_matcher};
 ghost use Rattle.selector.specs.Rests as rests;
 
+use crate::judge::Judge;
 use crate::pattern::{Pattern, PatternFault};
 use crate::written::Written;
 use crate::{Operator, SelectorFault};
 use faults::Refused;
-use profile_model::{LabelSet, ProfileType};
+use profile_model::{LabelSet, Name, ProfileType};
 use std::alloc::{AllocError, Global};
 use std::sync::Arc;
 
@@ -31,12 +34,12 @@ pub const TYPE_LABEL: &str = "__profile_type__";
 #[derive(Drop)]
 pub(crate) struct Matcher {
     name: String,
-    test: Test,
+    judge: Judge,
 }
 
 // An operator, with what it compares with. Matchers with the same pattern share it.
 #[derive(Drop)]
-enum Test {
+pub(crate) enum Test {
     Equal(String),
     NotEqual(String),
     Finds(Arc<Pattern>),
@@ -77,7 +80,11 @@ impl Test {
         }
     }
 
-    fn passes(&self, alloc: Global, value: &str) -> Result<bool, AllocError>
+    pub(crate) fn has_pattern(&self) -> bool {
+        matches!(self, Test::Finds(_) | Test::FindsNot(_))
+    }
+
+    pub(crate) fn passes(&self, alloc: Global, value: &str) -> Result<bool, AllocError>
         ensures { IfOk result (λ answer. answer ≡ passes (operator_of self.now) (asked_of self.now) value.now) }
     {
         match self {
@@ -102,29 +109,62 @@ impl Matcher {
     {
         let test = Test::build(alloc, before, written.operator, written.value)?;
         let name = String::from_str(alloc, written.name)?;
-        Ok(Matcher { name, test })
+        Ok(Matcher {
+            name,
+            judge: Judge::new(alloc, test),
+        })
     }
 
     pub(crate) fn holds(
-        &self,
+        &mut self,
         alloc: Global,
         labels: &LabelSet,
         kind: &ProfileType,
     ) -> Result<bool, AllocError>
-        ensures { IfOk result (λ answer. answer ≡ holds (seen_labels labels.now kind.now) (matching_of self.now)) }
+        ensures exact { IfOk result (λ answer. answer ≡ holds (seen_labels labels.now kind.now) (matching_of self.old)) }
+        ensures unchanged { matching_of self.new ≡ matching_of self.old }
     {
-        let name = self.name.as_str();
-        if name == TYPE_LABEL {
-            let text = kind.to_string(alloc)?;
-            return self.test.passes(alloc, text.as_str());
+        let value = seen_value(alloc, self.name.as_str(), labels, kind)?;
+        self.judge.passes(alloc, &value)
+    }
+}
+
+pub(crate) fn all_hold(
+    alloc: Global,
+    matchers: &mut [Matcher],
+    labels: &LabelSet,
+    kind: &ProfileType,
+) -> Result<bool, AllocError>
+    ensures exact { IfOk result (λ answer. answer ≡ list_all (holds (seen_labels labels.now kind.now)) (map matching_of matchers.old)) }
+    ensures unchanged { map matching_of matchers.new ≡ map matching_of matchers.old }
+{
+    for matcher in matchers.iter_mut() {
+        if !matcher.holds(alloc, labels, kind)? {
+            return Ok(false);
         }
-        if name == NAME_LABEL {
-            return self.test.passes(alloc, kind.name.as_str());
-        }
-        match labels.get(name.as_bytes()) {
-            Some(value) => self.test.passes(alloc, value.as_str()),
-            None => self.test.passes(alloc, ""),
-        }
+    }
+    Ok(true)
+}
+
+// The value that matchers see of the label with this name.
+fn seen_value(
+    alloc: Global,
+    name: &str,
+    labels: &LabelSet,
+    kind: &ProfileType,
+) -> Result<Name, AllocError>
+    ensures { IfOk result (λ value. value ≡ value_of (seen_labels labels.now kind.now) name.now) }
+{
+    if name == TYPE_LABEL {
+        let text = kind.to_string(alloc)?;
+        return Name::from_text(alloc, text.as_str());
+    }
+    if name == NAME_LABEL {
+        return kind.name.clone();
+    }
+    match labels.get(name.as_bytes()) {
+        Some(value) => value.clone(),
+        None => Name::from_text(alloc, ""),
     }
 }
 
@@ -152,7 +192,7 @@ fn find_pattern<'a>(matchers: &'a [Matcher], text: &str) -> Option<&'a Arc<Patte
         (λ pattern. (string_bytes (arc_value pattern.now).text ≡ text.now) × IsWellFormed text.now) }
 {
     for matcher in matchers {
-        if let Some(pattern) = matcher.test.pattern_of(text) {
+        if let Some(pattern) = matcher.judge.test().pattern_of(text) {
             return Some(pattern);
         }
     }

@@ -8,7 +8,7 @@ ghost use Rattle.selector.specs.Rests.{AtSelector, IsReadFault, matching_of};
 
 use crate::SelectorFault;
 use crate::inside::read_inside;
-use crate::matchers::{Matcher, build_all};
+use crate::matchers::{Matcher, all_hold, build_all};
 use crate::tokens::{skip_space, strip};
 use crate::written::{ReadFault, Written, placed};
 use faults::Refused;
@@ -63,12 +63,7 @@ impl Selector {
         ensures exact { IfOk result (λ answer. answer ≡ matches self.old labels.now kind.now) }
         ensures unchanged { self.new ≡ self.old }
     {
-        for matcher in &self.matchers {
-            if !matcher.holds(self.alloc, labels, kind)? {
-                return Ok(false);
-            }
-        }
-        Ok(true)
+        all_hold(self.alloc, &mut self.matchers, labels, kind)
     }
 }
 

@@ -12,6 +12,7 @@ use Rattle.profile_model.specs.Kinds.{IsPart, parts_of}
 use Rattle.profile_model.specs.ReadKinds.{parts_in}
 use Rattle.profile_model.specs.declared.kind.ProfileType.{ProfileType}
 use Rattle.profile_model.proofs.BreakLemmas.{breaks_once}
+use Rattle.selector.specs.Limits.{most_matchers}
 use Rattle.selector.specs.Matching.{Matching}
 use Rattle.selector.specs.Grammar.{IsSelectorText, IsQueryOf, kind_of}
 use Rattle.selector.specs.Patterns.{anchored, IsReadable, IsUnreadable, IsWellFormed, IsBuilt, IsBadSyntax, IsTooLarge}
@@ -108,7 +109,7 @@ module _ (Form : List ℕ → List Matching → Type 0) (built : List ℕ → Bo
   first_of : (P : List ℕ → Type 0) (i : ℕ) (a b : List Matching) → Form text a → Form text b → IsFirstRefused built a P i → IsFirstRefused built b P i
   first_of P i a b form other w = subst (λ m. IsFirstRefused built m P i) (one a b form other) w
 
-  many_not_few : (a b : List Matching) → Form text a → Form text b → 16 < length a → length b ≤ 16 → ⊥
+  many_not_few : (a b : List Matching) → Form text a → Form text b → most_matchers < length a → length b ≤ most_matchers → ⊥
   many_not_few a b form other many few = let size = ap length (one a b form other) in omega arith
 
   fault_same : (f g : SelectorFault) → IsFaultOf Form built text f → IsFaultOf Form built text g → f ≡ g

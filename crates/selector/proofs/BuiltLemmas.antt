@@ -3,6 +3,7 @@ use Rattle.std.proofs.Common.{◌≡◌, ◌≢◌, ◌≤◌, ℕ, Bool, true, 
 use Rattle.std.specs.Prelude.{nat_eq, IsTrue}
 use Rattle.std.specs.Cmp.Lexicographic.{pointwise, bytes_decides}
 use Rattle.std.proofs.lemmas.Bool.{false_from_ne_true}
+use Rattle.selector.specs.Limits.{most_matchers}
 use Rattle.selector.specs.Matching.{Matching}
 use Rattle.selector.specs.Patterns.{IsWellFormed, IsBuilt, IsBadSyntax, IsTooLarge}
 use Rattle.selector.specs.Read.{ForPattern, ForPatterns, OfPattern, AreBuilt, IsFirstRefused}
@@ -92,13 +93,13 @@ module _ (all before : List Matching) (m : Matching) (after : List Matching) (i 
       own Finds value h = (h.0, ap not ((bytes_decides value value).1 refl))
       own FindsNot value h = (h.0, ap not ((bytes_decides value value).1 refl))
 
-  built_fault : length all ≤ 16 → all ≡ before ++ m ∷ after → i ≡ length before → ForPatterns IsWellFormed before → (fault : PatternFault)
+  built_fault : length all ≤ most_matchers → all ≡ before ++ m ∷ after → i ≡ length before → ForPatterns IsWellFormed before → (fault : PatternFault)
       → IsUnbuilt before m.operator m.value fault → (built : List ℕ → Bool) × IsBuildFault built all (fault_of_matcher i fault)
   built_fault few cut place formed Syntax refused = (λ _. true, (few, first_of_bad_syntax cut place formed refused))
   built_fault few cut place formed TooLarge refused = let first = first_too_large cut place formed refused in (first.0, (few, first.1))
 
   -- what its pattern is refused for, told of the selector
-  pub told_of_matcher : length all ≤ 16 → all ≡ before ++ m ∷ after → i ≡ length before → ForPatterns IsWellFormed before
+  pub told_of_matcher : length all ≤ most_matchers → all ≡ before ++ m ∷ after → i ≡ length before → ForPatterns IsWellFormed before
       → (refused : Refused PatternFault) (told : Refused SelectorFault) → IsMapped (λ fault told. told ≡ fault_of_matcher i fault) refused told
       → IfFault (IsUnbuilt before m.operator m.value) refused → IfFault (λ fault. (built : List ℕ → Bool) × IsBuildFault built all fault) told
   told_of_matcher few cut place formed (Fault fault) (Fault told) same unbuilt =

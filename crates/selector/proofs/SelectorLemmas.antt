@@ -6,6 +6,7 @@ use Rattle.std.specs.List.{list_all, position_or_len, after_first}
 use Rattle.std.proofs.lemmas.Bool.{eqb-true}
 use Rattle.std.proofs.lemmas.List.{get_or-take, length-take, take_all}
 use Rattle.std.proofs.lemmas.List.Sums.{fails_before_first, passes_at_first, split_at_first, list_all-from_AllPass}
+use Rattle.selector.specs.Limits.{most_matchers}
 use Rattle.selector.specs.Matching.{Matching}
 use Rattle.selector.specs.Grammar.{is_space, IsInside, IsSelectorText, IsKind, IsQueryOf, kind_of}
 use Rattle.faults.specs.Answers.{IfAnswered, IfFault, IsMapped}
@@ -158,7 +159,7 @@ built_fault Form built text matchers form (Pattern i) w = (matchers, form, w.0, 
 built_fault Form built text matchers form (PatternRefused i) w = (matchers, form, w.0, w.1)
 
 pub read_selector : (text : List ℕ) (matchers : List Matching) → IsSelectorText text matchers → (result : Result (List Matching) (Refused SelectorFault))
-    → MatchResult result (λ selector. (selector ≡ matchers) × (length selector ≤ 16) × AreBuilt (λ _. true) selector)
+    → MatchResult result (λ selector. (selector ≡ matchers) × (length selector ≤ most_matchers) × AreBuilt (λ _. true) selector)
     (IfFault (λ fault. (built : List ℕ → Bool) × IsBuildFault built matchers fault))
     → IfAnswered (IsReadSelector text) result
 read_selector text matchers form (Ok selector) w = (λ _. true, record { form = subst (IsSelectorText text) (sym w.0) form; few = w.1; each = w.2 })

@@ -1,5 +1,6 @@
 -- What building the patterns of matchers answers.
 use Rattle.std.specs.Prelude.{◌≢◌, ◌<◌, ◌≤◌, ℕ, Bool, List, length}
+use Rattle.selector.specs.Limits.{most_matchers}
 use Rattle.selector.specs.Matching.{Matching}
 use Rattle.selector.specs.Patterns.{IsWellFormed, IsBadSyntax, IsTooLarge}
 use Rattle.selector.specs.Read.{OfPattern, ForPatterns, IsFirstRefused}
@@ -22,6 +23,6 @@ IsUnbuilt before operator asked pattern.TooLarge = OfPattern (λ p. IsWellFormed
 abbrev pub IsBuildFault : (List ℕ → Bool) → List Matching → SelectorFault → Type 0
 IsBuildFault built matchers Kind = ⊥
 IsBuildFault built matchers (Syntax at) = ⊥
-IsBuildFault built matchers TooMany = 16 < length matchers
-IsBuildFault built matchers (Pattern i) = (length matchers ≤ 16) × IsFirstRefused built matchers IsBadSyntax i
-IsBuildFault built matchers (PatternRefused i) = (length matchers ≤ 16) × IsFirstRefused built matchers (IsTooLarge built) i
+IsBuildFault built matchers TooMany = most_matchers < length matchers
+IsBuildFault built matchers (Pattern i) = (length matchers ≤ most_matchers) × IsFirstRefused built matchers IsBadSyntax i
+IsBuildFault built matchers (PatternRefused i) = (length matchers ≤ most_matchers) × IsFirstRefused built matchers (IsTooLarge built) i

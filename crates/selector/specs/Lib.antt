@@ -1,3 +1,4 @@
+pub mod Limits
 pub mod Matching
 pub mod Grammar
 pub mod Patterns

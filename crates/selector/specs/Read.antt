@@ -4,6 +4,7 @@ use Rattle.std.specs.List.{AllByRecursion}
 use Rattle.profile_model.specs.Breaks.{BreaksAt}
 use Rattle.profile_model.specs.Kinds.{parts_of}
 use Rattle.profile_model.specs.ReadKinds.{parts_in}
+use Rattle.selector.specs.Limits.{most_matchers}
 use Rattle.selector.specs.Matching.{Matching}
 use Rattle.selector.specs.Grammar.{IsSelectorText, IsQueryOf, kind_of}
 use Rattle.selector.specs.Patterns.{IsBuilt, IsBadSyntax, IsTooLarge}
@@ -50,14 +51,14 @@ pub record IsFirstRefused (built : List ℕ → Bool) (matchers : List Matching)
 abbrev pub IsFaultOf : (List ℕ → List Matching → Type 0) → (List ℕ → Bool) → List ℕ → SelectorFault → Type 0
 IsFaultOf Form built text Kind = ⊥
 IsFaultOf Form built text (Syntax at) = ((matchers : List Matching) → ¬ (Form text matchers)) × BreaksAt (λ t. (matchers : List Matching) × Form t matchers) text at
-IsFaultOf Form built text TooMany = (matchers : List Matching) × Form text matchers × (16 < length matchers)
-IsFaultOf Form built text (Pattern i) = (matchers : List Matching) × Form text matchers × (length matchers ≤ 16) × IsFirstRefused built matchers IsBadSyntax i
-IsFaultOf Form built text (PatternRefused i) = (matchers : List Matching) × Form text matchers × (length matchers ≤ 16) × IsFirstRefused built matchers (IsTooLarge built) i
+IsFaultOf Form built text TooMany = (matchers : List Matching) × Form text matchers × (most_matchers < length matchers)
+IsFaultOf Form built text (Pattern i) = (matchers : List Matching) × Form text matchers × (length matchers ≤ most_matchers) × IsFirstRefused built matchers IsBadSyntax i
+IsFaultOf Form built text (PatternRefused i) = (matchers : List Matching) × Form text matchers × (length matchers ≤ most_matchers) × IsFirstRefused built matchers (IsTooLarge built) i
 
--- the matchers that a text stands for: at most 16, every pattern built
+-- the matchers that a text stands for: not too many, every pattern built
 pub record AreRead (Form : List ℕ → List Matching → Type 0) (built : List ℕ → Bool) (text : List ℕ) (matchers : List Matching) : Type 0 where
   pub form : Form text matchers
-  pub few : length matchers ≤ 16
+  pub few : length matchers ≤ most_matchers
   pub each : AreBuilt built matchers
 
 -- ---- where it is settled which patterns regex builds

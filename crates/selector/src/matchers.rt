@@ -9,6 +9,7 @@ ghost use Rattle.selector.specs.Tests.{operator_of, asked_of};
 ghost use Rattle.selector.specs.Read.{AreBuilt, ForPattern, ForPatterns, OfPattern};
 ghost use Rattle.selector.specs.Patterns.{IsWellFormed};
 ghost use Rattle.selector.specs.Building.{IsNew, IsUnbuilt, IsBuildFault};
+ghost use Rattle.selector.specs.Limits.{most_matchers};
 ghost use Rattle.selector.specs.Placed.{fault_of_matcher};
 ghost use Rattle.selector.specs.Rests as rests;
 
@@ -205,7 +206,7 @@ pub(crate) fn build_all(
     written: Vec<Written<'_>>,
 ) -> Result<Vec<Matcher>, Refused<SelectorFault>>
     ensures { MatchResult result
-        (λ matchers. (map matching_of matchers.items ≡ map rests.matching_of written.entry.items) × (length written.entry.items ≤ 16) × AreBuilt (λ _. true) (map rests.matching_of written.entry.items))
+        (λ matchers. (map matching_of matchers.items ≡ map rests.matching_of written.entry.items) × (length written.entry.items ≤ most_matchers) × AreBuilt (λ _. true) (map rests.matching_of written.entry.items))
         (IfFault (λ fault. (built : List ℕ → Bool) × IsBuildFault built (map rests.matching_of written.entry.items) fault)) }
 {
     if written.len() > MAX_MATCHERS {

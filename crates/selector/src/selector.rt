@@ -3,6 +3,7 @@ ghost use Rattle.std.specs.Prelude.{◌≡◌, ◌≤◌, ℕ, Bool, List, IfOk,
 ghost use Rattle.faults.specs.Answers.{IfAnswered, IfFault};
 ghost use Rattle.selector.specs.Grammar.{IsSelectorText};
 ghost use Rattle.selector.specs.Matching.{Matching, matches};
+ghost use Rattle.selector.specs.Limits.{most_matchers};
 ghost use Rattle.selector.specs.Building.{IsBuildFault};
 ghost use Rattle.selector.specs.Rests.{AtSelector, IsReadFault, matching_of};
 
@@ -51,7 +52,7 @@ impl Selector {
         written: Vec<Written<'_>>,
     ) -> Result<Selector, Refused<SelectorFault>>
         ensures { MatchResult result
-            (λ selector. (selector ≡ map matching_of written.entry.items) × (length selector ≤ 16) × AreBuilt (λ _. true) selector)
+            (λ selector. (selector ≡ map matching_of written.entry.items) × (length selector ≤ most_matchers) × AreBuilt (λ _. true) selector)
             (IfFault (λ fault. (built : List ℕ → Bool) × IsBuildFault built (map matching_of written.entry.items) fault)) }
     {
         let matchers = build_all(alloc, written)?;

@@ -1,5 +1,5 @@
 -- What reading a whole file answers.
-use Rattle.std.proofs.Common.{◌≡◌, ◌≢◌, inl, inr, ℕ, ◌+◌, ◌-◌, ◌<◌, List, [], ◌∷◌, ◌++◌, length, map, Result, Ok, Err, refl, subst, sym, ap, ◌∙◌, arith}
+use Rattle.std.proofs.Common.{◌≡◌, ◌≢◌, inr, ℕ, ◌+◌, ◌-◌, ◌<◌, List, [], ◌++◌, length, map, Result, Ok, Err, refl, subst, sym, ap, ◌∙◌, arith}
 use Rattle.std.specs.Prelude.{IsErrAnd}
 use Rattle.std.proofs.lemmas.List.{append-nil, length-map}
 use Rattle.faults.specs.Answers.{IfAnswered, IfFault}
@@ -9,7 +9,7 @@ use Rattle.profile_model.specs.declared.push.Push.{Push}
 use Rattle.segment_file.specs.declared.fault.ObjectFault.{ObjectFault}
 use Rattle.segment_file.specs.declared.fault.ObjectRule.TheVariants.{Form}
 use Rattle.segment_file.specs.Decoded.{IsBroken, IsDecoded, Spells}
-use Rattle.segment_file.specs.Fields.{Field, Fit, each_of, spelled}
+use Rattle.segment_file.specs.Fields.{each_of, spelled}
 use Rattle.segment_file.specs.Files.{FilePush, file_fields, mark_of_objects}
 use Rattle.segment_file.specs.Objects.{IsObject, ObjectView, file_of, push_said}
 use Rattle.segment_file.specs.ReadFields.{BeginsFile, each_push, head_fields}

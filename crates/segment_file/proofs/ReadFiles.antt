@@ -1,25 +1,22 @@
 -- Pushes and what stands before them, read.
-use Rattle.std.proofs.Common.{◌≡◌, ◌≢◌, ◌⊎◌, inl, inr, ℕ, ◌+◌, ◌-◌, ◌<◌, ◌≤◌, ◌^◌, ◌&&◌, Bool, true, false, List, [], ◌∷◌, ◌++◌, length, map, Option, Some, None, Result, Ok, Err, refl, subst, sym, ap, ◌∙◌, arith}
+use Rattle.std.proofs.Common.{◌≡◌, ◌⊎◌, inl, inr, ℕ, ◌+◌, ◌-◌, ◌<◌, ◌&&◌, Bool, true, false, List, [], ◌∷◌, ◌++◌, length, Option, Some, None, Ok, Err, refl, subst, sym, ap, ◌∙◌, arith}
 use Rattle.std.specs.Prelude.{nat_eq, nat_lt}
 use Rattle.std.specs.Cmp.Lexicographic.{pointwise}
-use Rattle.std.specs.List.{list_all}
 use Rattle.std.specs.Option.{is_none}
-use Rattle.std.specs.Str.{IsUtf8, is_utf8}
-use Rattle.std.proofs.lemmas.Bool.{and_from, and_parts, lt-ltb}
-use Rattle.std.proofs.lemmas.List.{append_assoc, append-nil, length-map}
+use Rattle.std.specs.Str.{is_utf8}
+use Rattle.std.proofs.lemmas.Bool.{and_from, lt-ltb}
+use Rattle.std.proofs.lemmas.List.{append_assoc, append-nil}
 use Rattle.std.proofs.lemmas.Slice.Eq.{bytes_eq-Decides}
 use Rattle.std.proofs.lemmas.Str.{is_utf8-from_IsUtf8}
-use Rattle.faults.specs.declared.refused.Refused.{Refused}
 use Rattle.faults.specs.declared.refused.Refused.TheVariants.{Fault}
 use Rattle.profile_model.specs.TenantPlaces.{wrong_place}
 use Rattle.segment_file.specs.declared.fault.ObjectFault.{ObjectFault}
-use Rattle.segment_file.specs.declared.fault.ObjectRule.{ObjectRule}
 use Rattle.segment_file.specs.declared.fault.ObjectRule.TheVariants.{Content, Form}
 use Rattle.segment_file.specs.Decoded.{IsBroken, Reaches}
-use Rattle.segment_file.specs.Fields.{AreSound, Field, Fit, each_of, number, spelled, unless}
-use Rattle.segment_file.specs.Files.{File, FileProfile, FilePush, IsFile, file_fields, mark_field, mark_of_objects, profile_fields, push_fields}
-use Rattle.segment_file.specs.ReadFields.{AreRead, BeginsFile, IsRead, alone, each_profile, each_push, few_profiles, head_fields, hi_field, is_tenant, judged, list_fields, lo_field}
-use Rattle.segment_file.specs.Reading.{Begins, BeginsCounted, CursorView, IsCut, IsCutHere, IsWhole, IsWrongHere, Passes, Stopped, Took, is_kept, marks, numbers, texts}
+use Rattle.segment_file.specs.Fields.{Field, Fit, each_of, spelled, unless}
+use Rattle.segment_file.specs.Files.{File, FileProfile, FilePush, mark_field, mark_of_objects, push_fields}
+use Rattle.segment_file.specs.ReadFields.{BeginsFile, alone, each_profile, each_push, few_profiles, head_fields, hi_field, is_tenant, judged, list_fields, lo_field}
+use Rattle.segment_file.specs.Reading.{Begins, BeginsCounted, CursorView, IsCut, IsCutHere, IsWhole, IsWrongHere, Stopped, Took, marks, numbers, texts}
 use Rattle.segment_file.proofs.ReadLemmas.{IsFieldOf, cut_field, fillers, fillers_fit, fit_append, length-fillers, number_field, right_field, stopped_behind, stopped_in, stopped_item, stopped_within, text_read, took_both, took_nothing, wrong_field}
 use Rattle.segment_file.proofs.TenantLemmas.{tenant_utf8}
 
@@ -71,8 +68,8 @@ pushes_at count before p q fault short took s = stopped_item each_push empty_pus
 mark_spelled : IsFieldOf marks mark_field
 mark_spelled = record { bytes = λ mark. refl; fits = λ mark long. eqb-from (length mark) long }
   where
-  eqb-from : (n : ℕ) → n ≡ 4 → nat_eq n 4 ≡ true
-  eqb-from n is = ap (λ (m : ℕ). nat_eq m 4) is
+    eqb-from : (n : ℕ) → n ≡ 4 → nat_eq n 4 ≡ true
+    eqb-from n is = ap (λ (m : ℕ). nat_eq m 4) is
 
 -- a file with so many empty pushes
 abbrev file_with : List ℕ → ℕ → ℕ → List FilePush → File
@@ -172,36 +169,36 @@ file_at_pushes mark lo hi p q fault took s =
 pub broken : (bytes : List ℕ) (c : CursorView) (fault : ObjectFault) → c.rest ≡ bytes → c.at ≡ 0 → Stopped BeginsFile c fault → IsBroken bytes fault.rule fault.at
 broken bytes c fault all front s = by s.here
   where
-  reaches : (rest : List ℕ) → s.rest ≡ rest → Reaches bytes s.field rest (length (spelled s.before))
-  reaches rest is = record {
-    file = s.may.file;
-    shape = s.may.shape;
-    before = s.before;
-    behind = s.may.behind;
-    fields = s.may.are ∙ append_assoc s.before (s.field ∷ []) s.may.behind;
-    sound = s.sound;
-    bytes_are = sym all ∙ s.bytes_are ∙ ap (λ (l : List ℕ). spelled s.before ++ l) is;
-    place = refl;
-  }
+    reaches : (rest : List ℕ) → s.rest ≡ rest → Reaches bytes s.field rest (length (spelled s.before))
+    reaches rest is = record {
+      file = s.may.file;
+      shape = s.may.shape;
+      before = s.before;
+      behind = s.may.behind;
+      fields = s.may.are ∙ append_assoc s.before (s.field ∷ []) s.may.behind;
+      sound = s.sound;
+      bytes_are = sym all ∙ s.bytes_are ∙ ap (λ (l : List ℕ). spelled s.before ++ l) is;
+      place = refl;
+    }
 
-  by : (IsWrongHere s.field s.rest fault.rule × (fault.at ≡ c.at + length (spelled s.before))) ⊎ (IsCutHere s.field s.rest × (fault.rule ≡ Form) × (fault.at ≡ c.at + length c.rest))
-      → IsBroken bytes fault.rule fault.at
-  by (inl w) =
-      let place : length (spelled s.before) ≡ fault.at = omega (arith, w.1, front) in
-      subst (IsBroken bytes fault.rule) place (inl (record { field = s.field; more = w.0.more; reaches = reaches (s.field.bytes ++ w.0.more) w.0.whole; wrong = w.0.wrong }))
-  by (inr k) =
-      inr (
-        k.1,
-        inl (
-          record {
-            field = s.field;
-            begun = s.rest;
-            missing = k.0.missing;
-            from = length (spelled s.before);
-            reaches = reaches s.rest refl;
-            part = k.0.part;
-            some = k.0.some;
-          },
-          omega (arith, k.2, front, ap length all),
-        ),
-      )
+    by : (IsWrongHere s.field s.rest fault.rule × (fault.at ≡ c.at + length (spelled s.before))) ⊎ (IsCutHere s.field s.rest × (fault.rule ≡ Form) × (fault.at ≡ c.at + length c.rest))
+        → IsBroken bytes fault.rule fault.at
+    by (inl w) =
+        let place : length (spelled s.before) ≡ fault.at = omega (arith, w.1, front) in
+        subst (IsBroken bytes fault.rule) place (inl (record { field = s.field; more = w.0.more; reaches = reaches (s.field.bytes ++ w.0.more) w.0.whole; wrong = w.0.wrong }))
+    by (inr k) =
+        inr (
+          k.1,
+          inl (
+            record {
+              field = s.field;
+              begun = s.rest;
+              missing = k.0.missing;
+              from = length (spelled s.before);
+              reaches = reaches s.rest refl;
+              part = k.0.part;
+              some = k.0.some;
+            },
+            omega (arith, k.2, front, ap length all),
+          ),
+        )

@@ -1,32 +1,30 @@
 -- Pushes whose file fits and breaks no rule are an object's.
-use Rattle.std.proofs.Common.{◌≡◌, ◌≢◌, ◌&&◌, ℕ, ◌+◌, ◌<◌, ◌≤◌, ◌^◌, Bool, true, List, [], ◌∷◌, ◌++◌, length, drop, map, Option, Some, None, refl, subst, sym, ap, ◌∙◌, arith}
+use Rattle.std.proofs.Common.{◌≡◌, ◌&&◌, ℕ, ◌+◌, ◌<◌, ◌^◌, Bool, true, List, [], ◌∷◌, ◌++◌, length, drop, map, subst, sym, ap, ◌∙◌, arith}
 use Rattle.std.specs.Prelude.{nat_le, nat_lt, sum_by}
 use Rattle.std.specs.List.{All, AllByRecursion, list_all}
 use Rattle.std.specs.List.Sorted.{IsStrictlySortedBy}
 use Rattle.std.specs.Map.{keys_of, values_of}
-use Rattle.std.specs.Option.{is_none}
 use Rattle.std.specs.Ordering.{is_lt}
 use Rattle.std.specs.declared.cmp.Ordering.{Ordering}
 use Rattle.std.specs.declared.cmp.Ordering.TheVariants.{Less}
 use Rattle.std.specs.Str.{IsUtf8, is_utf8}
-use Rattle.std.proofs.lemmas.Bool.{and_from, and_parts, leb-true, ltb-true}
+use Rattle.std.proofs.lemmas.Bool.{and_parts, leb-true, ltb-true}
 use Rattle.std.proofs.lemmas.List.{append_assoc, append-nil, length-map, map-append}
 use Rattle.std.proofs.lemmas.List.Elements.{All-cons, All-nil}
 use Rattle.std.proofs.lemmas.List.Folds.{list_all-append}
 use Rattle.std.proofs.lemmas.List.Sums.{sum_by-append}
 use Rattle.std.proofs.lemmas.Str.{IsUtf8-from_is_utf8}
-use Rattle.profile_model.specs.LabelSets.{AreLabels, Label, is_label_name}
+use Rattle.profile_model.specs.LabelSets.{Label, is_label_name}
 use Rattle.profile_model.specs.ReadKinds.{parts_in}
 use Rattle.profile_model.specs.Stacks.{IsFrame, IsStack, name_cmp, stack_cmp}
-use Rattle.profile_model.specs.Sums.{AreSums, Sample, total_of}
+use Rattle.profile_model.specs.Sums.{Sample, total_of}
 use Rattle.profile_model.specs.TenantPlaces.{wrong_place}
 use Rattle.profile_model.specs.declared.kind.ProfileType.{ProfileType}
 use Rattle.profile_model.specs.declared.profile.Profile.{Profile}
 use Rattle.profile_model.specs.declared.push.Push.{Push}
-use Rattle.segment_file.specs.declared.fault.ObjectRule.TheVariants.{Content}
-use Rattle.segment_file.specs.Fields.{AreSound, Field, Fit, each_of, number, unless}
+use Rattle.segment_file.specs.Fields.{AreSound, Fit, each_of}
 use Rattle.segment_file.specs.Files.{FileProfile, FilePush, file_fields, frame_fields, is_frame, label_fields, labels_fields, mark_field, mark_of_objects, profile_fields, push_fields, sample_fields, stack_fields, value_field}
-use Rattle.segment_file.specs.Objects.{IsObject, IsProfile, IsPush, IsWritten, file_of, profile_said, push_said}
+use Rattle.segment_file.specs.Objects.{IsObject, IsProfile, IsPush, file_of, profile_said, push_said}
 use Rattle.segment_file.specs.ReadFields.{alone, any_count, each_profile, each_push, few_frames, few_profiles, hi_field, is_above_labels, is_above_stacks, is_label_value, is_next_name, is_part, is_tenant, judged, kind_fields, kind_said, list_fields, lo_field, time_field}
 use Rattle.segment_file.proofs.FileLemmas.{nth_fits, others_fit}
 use Rattle.segment_file.proofs.ReadFiles.{none_from}

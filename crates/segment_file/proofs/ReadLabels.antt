@@ -1,5 +1,5 @@
 -- Labels, read one behind another.
-use Rattle.std.proofs.Common.{◌≡◌, ℕ, ◌<◌, Bool, true, List, [], ◌∷◌, ◌++◌, length, Option, Some, None, Result, Ok, Err, cond, refl, subst, sym, ap, ◌∙◌}
+use Rattle.std.proofs.Common.{◌≡◌, ℕ, ◌<◌, Bool, List, [], ◌∷◌, ◌++◌, length, Some, None, Result, Ok, Err, cond, refl, subst, sym, ap, ◌∙◌}
 use Rattle.std.specs.Prelude.{nat_eq}
 use Rattle.std.specs.Map.{lookup}
 use Rattle.std.specs.Cmp.Lexicographic.{nat_list_cmp_total, nat_list_eq_equiv, pointwise}
@@ -7,7 +7,7 @@ use Rattle.std.proofs.lemmas.Bool.{and_parts}
 use Rattle.faults.specs.declared.refused.Refused.{Refused}
 use Rattle.profile_model.specs.LabelSets.{Label, is_label_name, label_of, with_label}
 use Rattle.segment_file.specs.declared.fault.ObjectFault.{ObjectFault}
-use Rattle.segment_file.specs.Fields.{Field, Fit, each_of}
+use Rattle.segment_file.specs.Fields.{Fit, each_of}
 use Rattle.segment_file.specs.Files.{label_fields, labels_fields}
 use Rattle.segment_file.specs.ReadFields.{AreRead, IsRead, alone, count_field, few_labels, is_above_labels, is_label_value, is_next_name, judged}
 use Rattle.segment_file.specs.Reading.{Begins, BeginsCounted, CursorView, Stopped, Took}

@@ -1,6 +1,6 @@
 -- What was taken and where a reader stopped, one thing after another.
-use Rattle.std.proofs.Common.{◌≡◌, ◌≢◌, ◌⊎◌, inl, inr, ◌&&◌, ℕ, suc, zero, ◌+◌, ◌-◌, ◌<◌, ◌^◌, Bool, true, false, List, [], ◌∷◌, ◌++◌, length, Some, None, Result, Ok, Err, refl, subst, sym, ap, ◌∙◌, arith}
-use Rattle.std.specs.Prelude.{MatchResult, Option, nat_lt}
+use Rattle.std.proofs.Common.{◌≡◌, ◌⊎◌, inl, inr, ℕ, suc, zero, ◌+◌, ◌-◌, ◌<◌, ◌^◌, Bool, true, false, List, [], ◌∷◌, ◌++◌, length, Some, None, Result, Ok, Err, refl, subst, sym, ap, ◌∙◌, arith}
+use Rattle.std.specs.Prelude.{MatchResult, Option}
 use Rattle.std.specs.List.{list_all}
 use Rattle.std.specs.Option.{is_none}
 use Rattle.std.specs.Str.{is_utf8}
@@ -13,7 +13,7 @@ use Rattle.faults.specs.declared.refused.Refused.{Refused}
 use Rattle.segment_file.specs.declared.fault.ObjectFault.{ObjectFault}
 use Rattle.segment_file.specs.declared.fault.ObjectRule.{ObjectRule}
 use Rattle.segment_file.specs.declared.fault.ObjectRule.TheVariants.{Content, Form}
-use Rattle.segment_file.specs.Fields.{AreSound, Field, Fit, each_of, listed, number, spelled, unless}
+use Rattle.segment_file.specs.Fields.{AreSound, Field, Fit, each_of, number, spelled, unless}
 use Rattle.segment_file.specs.ReadFields.{IsFieldRead, alone, count_field, judged, list_fields}
 use Rattle.segment_file.specs.Reading.{Begins, BeginsCounted, CursorView, IsContentAt, IsCut, IsCutHere, IsWhole, IsWrongHere, Passes, Spelling, Stopped, Took, is_kept, numbers, texts}
 use Rattle.segment_file.proofs.ReadAnswers.{weaker}

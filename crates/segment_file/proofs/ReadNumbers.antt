@@ -1,11 +1,11 @@
 -- Bytes that end inside a number, a text or a mark.
 use Rattle.std.proofs.Common.{◌≡◌, ◌≢◌, ℕ, suc, zero, ◌+◌, ◌-◌, ◌<◌, ◌≤◌, ◌^◌, List, [], ◌∷◌, ◌++◌, length, get_or, take, drop, refl, subst, sym, ap, ◌∙◌, w32, w64, arith}
 use Rattle.std.specs.Int.{bytes_high_first, from_be_bytes}
-use Rattle.std.proofs.lemmas.List.{append_assoc, append-nil, length-append, take-append-drop}
+use Rattle.std.proofs.lemmas.List.{append_assoc, length-append, take-append-drop}
 use Rattle.std.proofs.lemmas.Nat.{be_bytes_4, be_bytes_8}
 use Rattle.segment_file.specs.declared.fault.ObjectFault.{ObjectFault}
 use Rattle.segment_file.specs.declared.fault.ObjectRule.TheVariants.{Form}
-use Rattle.segment_file.specs.Reading.{AreShort, CursorView, IsCut, IsWhole, Passes, Spelling, marks, numbers, texts}
+use Rattle.segment_file.specs.Reading.{AreShort, CursorView, IsCut, IsWhole, Passes, marks, numbers, texts}
 use Rattle.segment_file.proofs.ReadLemmas.{fillers, length-fillers}
 
 abbrev pub AreBytes : List ℕ → Type 0

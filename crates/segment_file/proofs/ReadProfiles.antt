@@ -1,22 +1,18 @@
 -- Profiles and pushes, read one behind another.
-use Rattle.std.proofs.Common.{◌≡◌, ℕ, ◌+◌, ◌<◌, ◌≤◌, Bool, true, List, [], ◌∷◌, ◌++◌, length, map, Some, None, Result, Ok, Err, refl, subst, sym, ap, ◌∙◌, arith}
+use Rattle.std.proofs.Common.{◌≡◌, ℕ, ◌<◌, ◌≤◌, List, [], ◌∷◌, ◌++◌, length, None, refl, subst, sym, ap, ◌∙◌}
 use Rattle.std.specs.Prelude.{nat_le, nat_lt}
 use Rattle.std.specs.List.{All, list_all}
 use Rattle.std.specs.Option.{is_none}
 use Rattle.std.proofs.lemmas.Bool.{and_from, and_parts, leb-true, ltb-true}
-use Rattle.std.proofs.lemmas.List.{append_assoc, append-nil, length-map}
+use Rattle.std.proofs.lemmas.List.{append_assoc, append-nil}
 use Rattle.std.proofs.lemmas.List.Elements.{All-cons, All-nil}
-use Rattle.faults.specs.declared.refused.Refused.{Refused}
 use Rattle.profile_model.specs.LabelSets.{AreProfileLabels, IsLabel, Label, is_label_name}
 use Rattle.profile_model.specs.Sums.{Sample}
-use Rattle.profile_model.specs.declared.profile.Profile.{Profile}
 use Rattle.segment_file.specs.declared.fault.ObjectFault.{ObjectFault}
-use Rattle.segment_file.specs.Fields.{AreSound, Field, Fit, each_of, number}
+use Rattle.segment_file.specs.Fields.{AreSound, Field, Fit, each_of}
 use Rattle.segment_file.specs.Files.{FileProfile, label_fields, labels_fields, profile_fields, sample_fields}
-use Rattle.segment_file.specs.Objects.{profile_said}
-use Rattle.segment_file.specs.ReadFields.{AreRead, FileKind, IsRead, alone, any_count, count_field, each_profile, few_labels, few_profiles, is_above_labels, is_label_value, is_next_name, is_part, judged, kind_fields, list_fields, time_field}
+use Rattle.segment_file.specs.ReadFields.{FileKind, alone, any_count, count_field, each_profile, few_labels, few_profiles, is_above_labels, is_label_value, is_next_name, is_part, judged, kind_fields, list_fields, time_field}
 use Rattle.segment_file.specs.Reading.{Begins, BeginsCounted, CursorView, IsCut, Stopped, Took, numbers}
-use Rattle.segment_file.proofs.ReadAnswers.{weaker}
 use Rattle.segment_file.proofs.ReadLemmas.{cut_field, number_field, sound_number, sound_text, stopped_count, stopped_item, stopped_list, stopped_within, took_both, took_list, took_nothing}
 
 -- ---- types

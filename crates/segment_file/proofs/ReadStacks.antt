@@ -1,13 +1,12 @@
 -- Stacks and their values, read one behind another.
-use Rattle.std.proofs.Common.{◌≡◌, ◌&&◌, ℕ, suc, zero, ◌+◌, ◌-◌, ◌<◌, ◌≤◌, ◌^◌, Bool, true, false, List, [], ◌∷◌, ◌++◌, length, Option, Some, None, Result, Ok, Err, cond, refl, subst, sym, ap, ◌∙◌, arith}
+use Rattle.std.proofs.Common.{◌≡◌, ◌&&◌, ℕ, suc, zero, ◌+◌, ◌<◌, ◌^◌, Bool, true, false, List, [], ◌∷◌, ◌++◌, length, Option, Some, Result, Ok, Err, cond, refl, subst, sym, ap, ◌∙◌, arith}
 use Rattle.std.specs.Prelude.{MatchResult, nat_eq, nat_le, nat_lt, unwrap_or}
 use Rattle.std.specs.BTreeMap.{insert_entry}
-use Rattle.std.specs.List.{All, list_all}
-use Rattle.std.specs.Map.{lookup}
+use Rattle.std.specs.List.{All}
 use Rattle.std.specs.Str.{is_utf8}
-use Rattle.std.proofs.lemmas.Bool.{and_from, and_parts, leb-true, ltb-true}
+use Rattle.std.proofs.lemmas.Bool.{and_parts, leb-true, ltb-true}
 use Rattle.std.proofs.lemmas.Bool.Decides.{nat_tests}
-use Rattle.std.proofs.lemmas.List.{append_assoc, append-nil, length-append}
+use Rattle.std.proofs.lemmas.List.{append_assoc, length-append}
 use Rattle.std.proofs.lemmas.List.Elements.{All-cons, All-nil}
 use Rattle.faults.specs.Answers.{IfFault}
 use Rattle.faults.specs.declared.refused.Refused.{Refused}
@@ -17,12 +16,12 @@ use Rattle.profile_model.specs.Stacks.{IsFrame, stack_cmp}
 use Rattle.profile_model.specs.Sums.{Sample, total_of, value_of, with_added}
 use Rattle.segment_file.specs.declared.fault.ObjectFault.{ObjectFault}
 use Rattle.segment_file.specs.declared.fault.ObjectRule.TheVariants.{Content}
-use Rattle.segment_file.specs.Fields.{AreSound, Field, Fit, each_of, number, text_of, unless}
+use Rattle.segment_file.specs.Fields.{AreSound, Field, Fit, each_of, text_of, unless}
 use Rattle.segment_file.specs.Files.{frame_fields, is_frame, sample_fields, stack_fields, value_field}
 use Rattle.segment_file.specs.ReadFields.{AreRead, IsRead, alone, any_count, count_field, few_frames, inner_frame_fields, is_above_stacks, is_last_frame, judged, list_fields}
 use Rattle.segment_file.specs.Reading.{Begins, BeginsCounted, CursorView, IsContentAt, IsCut, IsWhole, Stopped, Took, is_kept, numbers, texts}
 use Rattle.segment_file.proofs.ReadAnswers.{weaker}
-use Rattle.segment_file.proofs.ReadLemmas.{count_cut, count_right, cut_field, number_field, sound_number, wrong_field, fillers, fit_append, judge_kept, length-fillers, sound_text, stopped_behind, stopped_count, stopped_item, stopped_list, stopped_within, text_read, took_both, took_list, took_nothing}
+use Rattle.segment_file.proofs.ReadLemmas.{count_cut, count_right, cut_field, number_field, sound_number, wrong_field, fillers, fit_append, length-fillers, sound_text, stopped_behind, stopped_count, stopped_item, stopped_list, stopped_within, text_read, took_both, took_list, took_nothing}
 use Rattle.segment_file.proofs.ReadOrder.{new_above, put_last}
 
 -- ---- frames

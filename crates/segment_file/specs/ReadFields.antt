@@ -1,5 +1,5 @@
 -- Fields as they are read, one after another.
-use Rattle.std.specs.Prelude.{◌≡◌, ◌&&◌, ◌==◌, ℕ, ◌+◌, ◌^◌, Bool, true, List, [], ◌∷◌, ◌++◌, length, nat_le, nat_lt, not, MatchResult, None, Result}
+use Rattle.std.specs.Prelude.{◌≡◌, ◌&&◌, ℕ, Bool, true, List, [], ◌∷◌, ◌++◌, length, nat_le, nat_lt, not, MatchResult, None, Result}
 use Rattle.std.specs.List.{list_all}
 use Rattle.std.specs.Option.{is_none}
 use Rattle.std.specs.Ordering.{is_lt}
@@ -14,7 +14,7 @@ use Rattle.profile_model.specs.declared.kind.ProfileType.{ProfileType}
 use Rattle.segment_file.specs.declared.fault.ObjectFault.{ObjectFault}
 use Rattle.segment_file.specs.declared.fault.ObjectRule.TheVariants.{Content, Form}
 use Rattle.segment_file.specs.Fields.{Field, each_of, listed, number, text_of, unless}
-use Rattle.segment_file.specs.Files.{File, FileProfile, FilePush, IsFile, file_fields, is_frame, label_fields, mark_field, profile_fields, push_fields}
+use Rattle.segment_file.specs.Files.{File, FileProfile, FilePush, IsFile, file_fields, is_frame, mark_field, profile_fields, push_fields}
 use Rattle.segment_file.specs.Reading.{Begins, BeginsCounted, CursorView, Stopped, Took}
 
 -- one field

@@ -1,5 +1,5 @@
 -- What the reader of an object takes, and where it stops. Only its own functions speak of these.
-use Rattle.std.specs.Prelude.{◌≡◌, ◌≢◌, ◌⊎◌, ℕ, ◌+◌, ◌^◌, ◌<◌, Bool, false, true, ◌&&◌, List, [], ◌∷◌, ◌++◌, length, get_or, Option, Some}
+use Rattle.std.specs.Prelude.{◌≡◌, ◌≢◌, ◌⊎◌, ℕ, ◌+◌, ◌^◌, ◌<◌, Bool, false, ◌&&◌, List, [], ◌∷◌, ◌++◌, length, get_or, Some}
 use Rattle.std.specs.Int.{bytes_high_first}
 use Rattle.std.specs.Str.{is_utf8}
 use Rattle.segment_file.specs.declared.fault.ObjectFault.{ObjectFault}

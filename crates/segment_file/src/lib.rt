@@ -17,9 +17,11 @@ mod reader_labels;
 mod reader_profiles;
 mod reader_pushes;
 mod reader_samples;
-mod texts;
 #[cfg(test)]
 mod tests;
+#[cfg(test)]
+mod tests_decode;
+mod texts;
 
 pub use decoding::decode;
 pub use fault::{ObjectFault, ObjectRule};

@@ -59,11 +59,7 @@ impl<'b> Reader<'b> {
         Ok(())
     }
 
-    fn label_name(
-        &mut self,
-        alloc: Global,
-        labels: &LabelSet,
-    ) -> Result<Name, Refused<ObjectFault>>
+    fn label_name(&mut self, alloc: Global, labels: &LabelSet) -> Result<Name, Refused<ObjectFault>>
         ensures { IsFieldRead (judged (is_next_name labels.now)) self.old.cursor self.new.cursor result }
     {
         let at = self.cursor.at();

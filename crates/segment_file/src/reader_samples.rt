@@ -85,11 +85,7 @@ impl<'b> Reader<'b> {
     }
 
     // All frames of a stack but the last.
-    fn inner_frames(
-        &mut self,
-        alloc: Global,
-        count: u32,
-    ) -> Result<Vec<Name>, Refused<ObjectFault>>
+    fn inner_frames(&mut self, alloc: Global, count: u32) -> Result<Vec<Name>, Refused<ObjectFault>>
         ensures { AreRead count inner_frame_fields (λ frames. frames.items) self.old.cursor self.new.cursor result }
     {
         let mut frames = Vec::new(alloc);

@@ -1,12 +1,10 @@
-use Rattle.std.proofs.Common.{map, sym, ◌-◌}
-use Rattle.faults.specs.Answers.{IfAnswered, IfFault}
-use Rattle.segment_file.specs.Decoded.{IsDecoded}
+use Rattle.std.proofs.Common.{map, ◌-◌}
 use Rattle.segment_file.specs.Files.{mark_of_objects}
 use Rattle.segment_file.specs.Objects.{push_said}
 use Rattle.segment_file.specs.ReadFields.{BeginsFile, each_push}
 use Rattle.segment_file.specs.Reading.{BeginsCounted, Stopped}
 use Rattle.segment_file.proofs.ReadAnswers.{weaker}
-use Rattle.segment_file.proofs.ReadDecoded.{bytes_left, bytes_spell, object_read, stopped_answer}
+use Rattle.segment_file.proofs.ReadDecoded.{bytes_left, bytes_spell, stopped_answer}
 use Rattle.segment_file.proofs.ReadFiles.{file_at_pushes}
 use Rattle.segment_file.proofs.decoding.decode.Goals as goal
 

@@ -1,4 +1,3 @@
-use Rattle.std.proofs.Common.{◌∙◌, sym, subst, arith}
 use Rattle.segment_file.proofs.ReadNumbers.{cut_mark}
 use Rattle.segment_file.proofs.cursor.Cursor.mark.Goals as goal
 

@@ -1,6 +1,6 @@
 use Rattle.segment_file.specs.Reading.{IsCut, texts}
 use Rattle.segment_file.proofs.ReadAnswers.{handed}
-use Rattle.segment_file.proofs.ReadNumbers.{cut_length, cut_text, whole_text}
+use Rattle.segment_file.proofs.ReadNumbers.{cut_length, cut_text}
 use Rattle.segment_file.proofs.cursor.Cursor.text.Goals as goal
 
 pub returns-in_err-length : goal.returns-in_err-length

@@ -21,8 +21,7 @@ returns-in_err-profile c =
 pub loop-preserved : goal.loop-preserved
 loop-preserved c =
     counted_more each_profile (map profile_said c.loop.profiles.items) (map profile_said c.push.new.self.items) c.loop.counter c.args.self.now.cursor c.loop.self.cursor
-    c.profile.new.self.cursor c.loop.invariant
-    (
+    c.profile.new.self.cursor c.loop.invariant (
       profile_said c.in_ok-profile.profile,
       ap (map profile_said) c.in_ok-push.ensures.items ∙ map-append profile_said c.loop.profiles.items (c.in_ok-profile.profile ∷ []),
       c.in_ok-profile.ensures,

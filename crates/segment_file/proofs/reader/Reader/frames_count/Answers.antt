@@ -4,7 +4,7 @@ use Rattle.faults.specs.declared.refused.Refused.TheVariants.{Fault}
 use Rattle.segment_file.specs.ReadFields.{alone, count_field, few_frames}
 use Rattle.segment_file.specs.Reading.{Begins, Stopped}
 use Rattle.segment_file.proofs.ReadAnswers.{handed}
-use Rattle.segment_file.proofs.ReadLemmas.{count_cut, count_right, count_wrong}
+use Rattle.segment_file.proofs.ReadLemmas.{count_cut, count_wrong}
 use Rattle.segment_file.proofs.reader.Reader.frames_count.Goals as goal
 
 pub returns-in_err-count-clause-read : goal.returns-in_err-count-clause-read

@@ -1,5 +1,4 @@
 use Rattle.std.proofs.Common.{arith}
-use Rattle.faults.specs.Answers.{IfFault}
 use Rattle.segment_file.specs.Files.{is_frame}
 use Rattle.segment_file.specs.ReadFields.{alone, inner_frame_fields, judged}
 use Rattle.segment_file.specs.Reading.{Begins, BeginsCounted, Stopped}

@@ -1,7 +1,7 @@
-use Rattle.std.proofs.Common.{◌∷◌, ◌++◌, [], List, ℕ, refl}
+use Rattle.std.proofs.Common.{◌++◌, [], List, ℕ, refl}
 use Rattle.segment_file.specs.Fields.{Field}
-use Rattle.segment_file.specs.ReadFields.{FileKind, alone, is_part, judged, kind_fields}
-use Rattle.segment_file.specs.Reading.{Begins, Stopped, Took}
+use Rattle.segment_file.specs.ReadFields.{alone, is_part, judged, kind_fields}
+use Rattle.segment_file.specs.Reading.{Begins, Stopped}
 use Rattle.segment_file.proofs.ReadAnswers.{exit}
 use Rattle.segment_file.proofs.ReadLemmas.{took_both, took_nothing}
 use Rattle.segment_file.proofs.ReadProfiles.{kind_at}

@@ -1,4 +1,4 @@
-use Rattle.std.proofs.Common.{◌≡◌, ◌++◌, ◌∷◌, [], false, refl, rules, sym, ap, ◌∙◌, subst}
+use Rattle.std.proofs.Common.{◌≡◌, false, refl, rules, sym, ap, ◌∙◌}
 use Rattle.faults.specs.Answers.{IfFault}
 use Rattle.faults.specs.declared.refused.Refused.TheVariants.{Fault}
 use Rattle.segment_file.specs.Files.{is_frame}
@@ -6,7 +6,7 @@ use Rattle.segment_file.specs.ReadFields.{alone, is_above_stacks, is_last_frame,
 use Rattle.segment_file.specs.Reading.{Begins, IsContentAt, Stopped, is_kept}
 use Rattle.segment_file.proofs.ReadAnswers.{exit, handed}
 use Rattle.segment_file.proofs.ReadLemmas.{text_cut}
-use Rattle.segment_file.proofs.ReadStacks.{last_read, last_too_low, last_wrong}
+use Rattle.segment_file.proofs.ReadStacks.{last_too_low, last_wrong}
 use Rattle.segment_file.proofs.reader.Reader.last_frame.Goals as goal
 
 pub returns-in_err-text-clause-read : goal.returns-in_err-text-clause-read

@@ -7,7 +7,7 @@ use Rattle.segment_file.specs.Files.{mark_of_objects}
 use Rattle.segment_file.specs.ReadFields.{BeginsFile}
 use Rattle.segment_file.specs.Reading.{Stopped}
 use Rattle.segment_file.proofs.ReadAnswers.{handed}
-use Rattle.segment_file.proofs.ReadFiles.{hi_cut, hi_right, hi_wrong, lo_cut, lo_right, mark_cut, mark_right, mark_wrong}
+use Rattle.segment_file.proofs.ReadFiles.{hi_cut, hi_wrong, lo_cut, lo_right, mark_cut, mark_right, mark_wrong}
 use Rattle.segment_file.proofs.reader.Reader.numbers.Goals as goal
 
 pub returns-in_err-mark : goal.returns-in_err-mark

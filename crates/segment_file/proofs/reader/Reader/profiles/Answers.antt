@@ -1,9 +1,7 @@
-use Rattle.std.proofs.Common.{map}
-use Rattle.segment_file.specs.Objects.{profile_said}
 use Rattle.segment_file.specs.ReadFields.{alone, count_field, each_profile, few_profiles, list_fields}
 use Rattle.segment_file.specs.Reading.{Begins, BeginsCounted, Stopped}
 use Rattle.segment_file.proofs.ReadAnswers.{exit}
-use Rattle.segment_file.proofs.ReadProfiles.{few_from, profiles_at_count, profiles_stopped, profiles_taken}
+use Rattle.segment_file.proofs.ReadProfiles.{profiles_at_count, profiles_stopped}
 use Rattle.segment_file.proofs.reader.Reader.profiles.Goals as goal
 
 pub returns-in_err-count : goal.returns-in_err-count

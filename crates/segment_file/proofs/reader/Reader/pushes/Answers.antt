@@ -21,8 +21,7 @@ returns-in_err-push c =
 pub loop-preserved : goal.loop-preserved
 loop-preserved c =
     counted_more each_push (map push_said c.loop.pushes.items) (map push_said c.push-in-loop.new.self.items) c.loop.counter c.args.self.now.cursor c.loop.self.cursor
-    c.push.new.self.cursor c.loop.invariant
-    (
+    c.push.new.self.cursor c.loop.invariant (
       push_said c.in_ok-push.push,
       ap (map push_said) c.in_ok-push-2.ensures.items ∙ map-append push_said c.loop.pushes.items (c.in_ok-push.push ∷ []),
       c.in_ok-push.ensures,

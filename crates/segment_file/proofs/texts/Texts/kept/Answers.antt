@@ -1,6 +1,4 @@
-use Rattle.std.proofs.Common.{◌≡◌, refl, sym, ◌∙◌, subst, rules}
-use Rattle.faults.specs.Answers.{IfFault}
-use Rattle.segment_file.specs.Reading.{IsContentAt, is_kept}
+use Rattle.std.proofs.Common.{refl, ◌∙◌, rules}
 use Rattle.segment_file.proofs.ReadAnswers.{text_broken, text_kept}
 use Rattle.segment_file.proofs.texts.Texts.kept.Goals as goal
 

@@ -2,8 +2,9 @@
 ghost use Rattle.std.specs.Prelude.{◌≡◌, ◌<◌, ◌+◌, ◌^◌, ◌&&◌, ℕ, List, nat_lt, [], ◌∷◌, ◌++◌, length, true, IfOk, MatchResult};
 ghost use Rattle.std.specs.Arc.{arc_slice_items};
 ghost use Rattle.std.specs.List.{All};
+ghost use Rattle.std.specs.Ordering.{is_lt};
 ghost use Rattle.faults.specs.Answers.{IfFault};
-ghost use Rattle.profile_model.specs.Stacks.{IsFrame, IsStack};
+ghost use Rattle.profile_model.specs.Stacks.{IsFrame, IsStack, stack_cmp};
 ghost use Rattle.profile_model.specs.Sums.{total_of};
 ghost use Rattle.segment_file.specs.Files.{is_frame, sample_fields, stack_fields, value_field};
 ghost use Rattle.segment_file.specs.ReadFields.{AreRead, IsFieldRead, IsNextRead, IsRead, alone, any_count, count_field, few_frames, inner_frame_fields, is_above_stacks, is_last_frame, judged, list_fields};
@@ -146,9 +147,15 @@ fn is_above(sums: &StackSums, stack: &Stack) -> bool
 {
     let mut entries = sums.iter();
     match entries.next_back() {
-        Some((last, _)) => last.cmp(stack).is_lt(),
+        Some((last, _)) => is_below(last, stack),
         None => true,
     }
+}
+
+fn is_below(lower: &Stack, stack: &Stack) -> bool
+    ensures { result ≡ is_lt (stack_cmp lower.now stack.now) }
+{
+    lower.cmp(stack).is_lt()
 }
 
 fn are_few_frames(count: u32) -> bool

@@ -13,7 +13,7 @@ pub returns-in-Some : goal.returns-in-Some
 returns-in-Some c =
     let cut = sym c.iter-entries.ensures.stacks ∙ c.in-Some.ensures.steps in
     let stack = c.args.stack.now in
-    c.is_lt.ensures ∙ ap is_lt c.cmp.ensures
+    c.is_below.ensures
     ∙ above_last stacks_total c.next_back.new.self (c.in-Some.last.now, c.in-Some.field-0-1.now) stack
     (subst (λ (l : List Sample). IsStrictlySortedBy stack_cmp (keys_of l)) cut c.iter-entries.ensures.sums.ascending)
     ∙ ap (λ (l : List Sample). is_above_stacks l stack) (sym cut)

@@ -1,5 +1,5 @@
 // The labels of a profile, as a file has them.
-ghost use Rattle.std.specs.Prelude.{◌≡◌, [], ◌∷◌, ◌++◌, IfOk, MatchResult};
+ghost use Rattle.std.specs.Prelude.{◌≡◌, [], MatchResult};
 ghost use Rattle.faults.specs.Answers.{IfFault};
 ghost use Rattle.std.specs.List.{list_all};
 ghost use Rattle.profile_model.specs.LabelSets.{begins_with_digit, is_label_byte, is_label_name, is_name_length};
@@ -76,6 +76,7 @@ impl<'b> Reader<'b> {
     }
 }
 
+// No pairs break no rule, so only memory can be wanting.
 fn no_labels(alloc: Global) -> Result<LabelSet, Refused<ObjectFault>>
     ensures { MatchResult result (λ labels. labels ≡ []) (IfFault (λ _. ⊥)) }
 {

@@ -71,6 +71,7 @@ impl<'b> Reader<'b> {
         if !is_tenant(bytes) {
             return Err(content(at));
         }
+        // These are a tenant's bytes, so only memory can be wanting.
         match Tenant::read(alloc, bytes) {
             Ok(tenant) => Ok(tenant),
             Err(_) => Err(Refused::Memory),

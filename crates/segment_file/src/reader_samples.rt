@@ -1,6 +1,5 @@
 // The samples of a profile, as a file has them.
 ghost use Rattle.std.specs.Prelude.{◌≡◌, ◌<◌, ◌+◌, ◌^◌, ◌&&◌, ℕ, List, nat_lt, [], ◌∷◌, ◌++◌, length, true, IfOk, MatchResult};
-ghost use Rattle.std.specs.Arc.{arc_slice_items};
 ghost use Rattle.std.specs.List.{All};
 ghost use Rattle.std.specs.Ordering.{is_lt};
 ghost use Rattle.faults.specs.Answers.{IfFault};
@@ -46,6 +45,7 @@ impl<'b> Reader<'b> {
     {
         let stack = self.stack(alloc, sums)?;
         let value = self.value(sums)?;
+        // The sum was judged with the value, so only memory can be wanting.
         match sums.add(stack, value) {
             Ok(()) => Ok(()),
             Err(_) => Err(Refused::Memory),

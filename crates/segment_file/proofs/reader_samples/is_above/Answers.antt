@@ -1,7 +1,6 @@
 use Rattle.std.proofs.Common.{List, subst, sym, ap, ◌∙◌}
 use Rattle.std.specs.List.Sorted.{IsStrictlySortedBy}
 use Rattle.std.specs.Map.{keys_of}
-use Rattle.std.specs.Ordering.{is_lt}
 use Rattle.profile_model.specs.StackOrder.{stacks_total}
 use Rattle.profile_model.specs.Stacks.{stack_cmp}
 use Rattle.profile_model.specs.Sums.{Sample}

@@ -4,8 +4,8 @@ ghost use Rattle.faults.specs.Answers.{IfFault, IsMapped};
 ghost use Rattle.request_meaning.specs.LabelAsks.{AreSelectors, IsAskOf, IsAskOfRefused, IsAskRefused, IsLabelAsk, IsLabelFault, IsSelectorsRefused, SaysLabelAsk, method_of, most_selectors, refusal_of};
 
 use crate::ask::{LabelAsk, LabelQuery};
-use crate::refusal::Refusal;
 use crate::method::LabelMethod;
+use crate::refusal::Refusal;
 use faults::Refused;
 use json_bodies::{FieldFault, JsonFault, JsonObject, LabelNamesBody, LabelValuesBody, SeriesBody};
 use profile_model::{Name, PartAsk, Tenant};

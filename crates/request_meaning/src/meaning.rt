@@ -1,5 +1,5 @@
 // What a request asks for, or its first refusal.
-ghost use Rattle.std.specs.Prelude.{◌≡◌, ◌≢◌, MatchResult, Some, option_map};
+ghost use Rattle.std.specs.Prelude.{◌≡◌, true, ◌≢◌, MatchResult, Some, option_map};
 ghost use Rattle.faults.specs.Answers.{IfFault};
 ghost use Rattle.request_meaning.specs.Facts.{facts_of};
 ghost use Rattle.request_meaning.specs.Forms.{is_built, is_coded, is_encoded, route_at, route_of, tenant_of};
@@ -12,9 +12,9 @@ use crate::ask::Ask;
 use crate::config::Config;
 use crate::form::PushForm;
 use crate::label_form::read_label_ask;
+use crate::method::LabelMethod;
 use crate::refusal::Refusal;
 use crate::render_form::read_render;
-use crate::method::LabelMethod;
 use faults::Refused;
 use http_session::Request;
 use ingest::read_ingest;
@@ -74,8 +74,13 @@ fn route_at(request: &Request, config: &Config) -> Result<Route, Refusal>
     ensures { MatchResult result (λ route. route_at request.now ≡ Some route) (IsMisrouted request.now) }
 {
     match config.routes.find(request.method(), request.path()) {
-        Found::Route(route) if is_built(route) => Ok(route),
-        Found::Route(_) => Err(Refusal::Unbuilt),
+        Found::Route(route) => {
+            if is_built(route) {
+                Ok(route)
+            } else {
+                Err(Refusal::Unbuilt)
+            }
+        }
         Found::WrongMethod(allow) => Err(Refusal::WrongMethod(allow)),
         Found::NoRoute => Err(Refusal::NoRoute),
     }
@@ -102,6 +107,7 @@ fn read_for(
     route: Route,
     tenant: Tenant,
 ) -> Result<Meaning, Refused<Refusal>>
+    requires { is_built route ≡ true }
     ensures { MatchResult result (Says request.now route tenant) (IfFault (IsReadFault request.now route)) }
 {
     match route {
@@ -121,7 +127,7 @@ fn read_for(
         Route::LabelNames => read_labels(alloc, request, LabelMethod::Names, tenant),
         Route::LabelValues => read_labels(alloc, request, LabelMethod::Values, tenant),
         Route::Series => read_labels(alloc, request, LabelMethod::Series, tenant),
-        _ => Err(Refused::Fault(Refusal::Unbuilt)),
+        _ => unreachable!(),
     }
 }
 

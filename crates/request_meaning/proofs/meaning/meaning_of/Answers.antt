@@ -1,7 +1,7 @@
 use Rattle.std.proofs.Common.{sym, subst}
 use Rattle.request_meaning.specs.Facts.{facts_of}
 use Rattle.request_meaning.specs.Meanings.{Reaches}
-use Rattle.request_meaning.proofs.MeaningLemmas.{by_route}
+use Rattle.request_meaning.proofs.MeaningLemmas.{by_route, reached_built}
 use Rattle.request_meaning.proofs.meaning.meaning_of.Goals as goal
 
 pub returns-in-Ok : goal.returns-in-Ok
@@ -13,3 +13,6 @@ returns-in-Ok c =
 
 pub returns-in-Err : goal.returns-in-Err
 returns-in-Err c = (c.in_ok-route.route, c.in_ok-route.name.now, c.in_ok-route.ensures)
+
+pub read_for-requires : goal.read_for-requires
+read_for-requires c = reached_built c.args.request.now c.in_ok-route.route c.in_ok-route.ensures.route_is

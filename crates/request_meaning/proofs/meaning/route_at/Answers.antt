@@ -1,10 +1,12 @@
-use Rattle.std.proofs.Common.{◌∙◌, ap, sym}
+use Rattle.std.proofs.Common.{◌∙◌, ap, sym, Some, None}
+use Rattle.std.specs.Prelude.{if◌then◌else◌}
 use Rattle.request_meaning.specs.Forms.{built_route}
 use Rattle.request_meaning.proofs.meaning.route_at.Goals as goal
 
-pub returns-in-Some : goal.returns-in-Some
-returns-in-Some c =
-    ap built_route (sym (rw (c.method.ensures, c.path.ensures) at c.in-Route.ensures)) ∙ sym c.task_of.ensures ∙ c.in-Some.is
+pub returns-then-is_built : goal.returns-then-is_built
+returns-then-is_built c =
+    ap built_route (sym (rw (c.method.ensures, c.path.ensures) at c.in-Route.ensures))
+    ∙ ap (λ built. if built then Some c.in-Route.route else None) (sym c.if-is_built.ensures)
 
 pub returns-in-WrongMethod : goal.returns-in-WrongMethod
 returns-in-WrongMethod c = sym (rw (c.method.ensures, c.path.ensures) at c.in-WrongMethod.ensures)

@@ -2,8 +2,8 @@
 use Rattle.std.specs.Prelude.{◌||◌, ℕ, Bool, true, false, not, List, [], ◌∷◌, map, nat_eq, is_some, codes, Option, Some, None, if◌then◌else◌}
 use Rattle.std.specs.Char.{to_ascii_lowercase}
 use Rattle.std.specs.Cmp.Lexicographic.{pointwise}
-use Rattle.std.specs.List.{starts_with}
 use Rattle.http_session.specs.Asked.{Asked}
+use Rattle.wire_forms.specs.Gzip.{begins_as_gzip}
 use Rattle.routes.specs.Paths.{found_at}
 use Rattle.routes.specs.declared.route.Route.{Route}
 use Rattle.routes.specs.declared.route.Route.TheVariants as route
@@ -58,7 +58,7 @@ is_coded (Some coding) = not (is_text (map to_ascii_lowercase coding) (codes "id
 
 -- a body that isn't read as it is: coded, or beginning as gzip does (RFC 1952)
 abbrev pub is_encoded : Asked → Bool
-is_encoded asked = is_coded asked.encoding || starts_with nat_eq asked.body (0x1F ∷ 0x8B ∷ [])
+is_encoded asked = is_coded asked.encoding || begins_as_gzip asked.body
 
 -- a front is asked for, which isn't read yet
 abbrev pub asks_for_front : Asked → Bool

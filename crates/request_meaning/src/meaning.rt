@@ -23,6 +23,7 @@ use profile_model::{Push, Tenant, wrong_tenant_byte};
 use query_parameters::read_parameters;
 use routes::{Found, Route};
 use std::alloc::Global;
+use wire_forms::begins_as_gzip;
 
 /// What is to be done.
 #[derive(Drop)]
@@ -182,7 +183,7 @@ fn tenant_name<'r>(request: &'r Request, config: &Config) -> Option<&'r [u8]>
 fn is_encoded(request: &Request) -> bool
     ensures { result ≡ is_encoded request.now }
 {
-    is_coded(request.encoding()) || request.body().starts_with(b"\x1f\x8b")
+    is_coded(request.encoding()) || begins_as_gzip(request.body())
 }
 
 // A coding other than `identity`.

@@ -1,36 +1,17 @@
 -- The label sets of a history's profiles.
-use Rattle.std.proofs.Common.{◌≡◌, ◌≢◌, ◌⊎◌, ⊎_elim, inl, inr, ◌+◌, ◌<◌, ◌≤◌, ℕ, List, [], ◌∷◌, ◌++◌, Bool, true, false, cond, refl, sym, ap, subst, ◌∙◌, arith, length, take, drop, fold, map, Ok, Err, get_or, codes}
-use Rattle.std.specs.Prelude.{◌&&◌, nat_le, not, filter, Option, Some, None, is_ok, is_some, option_map, Result, MatchResult}
-use Rattle.std.specs.List.{position}
+use Rattle.std.proofs.Common.{◌≡◌, ℕ, List, [], ◌∷◌, Bool, true, false, cond, refl, arith, length, take, fold, map}
+use Rattle.std.specs.Prelude.{◌&&◌, nat_le, filter}
 use Rattle.std.specs.BTreeSet.{insert_key}
-use Rattle.faults.specs.Answers.{IfFault}
-use Rattle.faults.specs.declared.refused.Refused.{Refused}
-use Rattle.faults.specs.declared.refused.Refused.TheVariants.{Fault, Memory}
-use Rattle.std.proofs.lemmas.Bool.{false≢true}
-use Rattle.std.proofs.lemmas.Result.{MatchResult-at_ok}
-use Rattle.std.proofs.lemmas.List.{take_all, take_more, drop_more, take-append-drop, length-map, map-append}
+use Rattle.std.proofs.lemmas.List.{take_all}
 use Rattle.push_history.specs.History.{front_of, pushes_of, rows_of}
 use Rattle.profile_model.specs.LabelOrder.{labels_cmp}
 use Rattle.profile_model.specs.LabelSets.{Label}
 use Rattle.profile_model.specs.declared.profile.Profile.{Profile}
 use Rattle.profile_model.specs.declared.push.Push.{Push}
 use Rattle.selector.specs.Matching.{Matching}
-use Rattle.selector.specs.Read.{IsReadSelector}
-use Rattle.selector.specs.declared.fault.SelectorFault.{SelectorFault}
-use Rattle.selector.specs.declared.fault.SelectorFault.TheVariants.{Memory as no_memory}
-use Rattle.serde_json.specs.Data.{Data}
-use Rattle.json_bodies.specs.Fields.{texts_in, number_in, end_of}
-use Rattle.json_bodies.specs.Objects.{IsReadObject, or_braces}
 use Rattle.label_queries.specs.Gathered.{with_profile}
 use Rattle.label_queries.specs.Labels.{is_asked, label_sets_of, shown_labels}
 use Rattle.api_replies.specs.Listing.{with_rows}
-use Rattle.request_meaning.specs.declared.ask.LabelAsk.{LabelAsk}
-use Rattle.request_meaning.specs.declared.ask.LabelQuery.{LabelQuery}
-use Rattle.request_meaning.specs.declared.ask.LabelQuery.TheVariants as ask
-use Rattle.request_meaning.specs.declared.method.LabelMethod.{LabelMethod}
-use Rattle.request_meaning.specs.declared.method.LabelMethod.TheVariants.{Names, Values, Series}
-use Rattle.request_meaning.specs.declared.refusal.Refusal.{Refusal}
-use Rattle.request_meaning.specs.declared.refusal.Refusal.TheVariants.{WrongKind, Selector, Window}
 use Rattle.api_replies.proofs.RenderingLemmas.{profiles_in}
 
 -- ---- label sets

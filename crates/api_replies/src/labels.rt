@@ -52,11 +52,7 @@ fn sets_of_history(
 }
 
 // Adds the profiles in the window.
-fn add_rows(
-    sets: &mut LabelSets,
-    profiles: &[Profile],
-    part: &PartAsk,
-) -> Result<(), AllocError>
+fn add_rows(sets: &mut LabelSets, profiles: &[Profile], part: &PartAsk) -> Result<(), AllocError>
     ensures { OnOk result (sets.new ≡ with_rows sets.old profiles.now part.now.from_ms part.now.until_ms) }
 {
     for profile in profiles {

@@ -1,14 +1,14 @@
 // A render's answer over a history.
-ghost use Rattle.std.specs.Prelude.{◌≡◌, ◌≢◌, ◌+◌, ◌^◌, ◌<◌, ◌≤◌, IfOk, OnOk};
+ghost use Rattle.std.specs.Prelude.{◌≡◌, ◌+◌, ◌^◌, ◌<◌, ◌≤◌, IfOk, OnOk};
 ghost use Rattle.profile_model.specs.Sums.{total_of};
 ghost use Rattle.profile_model.specs.Pushes.{profiles_total};
 ghost use Rattle.push_history.specs.History.{sums_of_rows, tenant_total};
 ghost use Rattle.api_replies.specs.Rendering.{is_wanted, wanted_samples, with_samples};
 ghost use Rattle.api_replies.specs.Replies.{asked_rows, rendered};
 
-use folded_reader::write_folded;
 use faults::Refused;
-use profile_model::{AddFault, Profile, Push, StackSums};
+use folded_reader::write_folded;
+use profile_model::{Profile, Push, StackSums};
 use request_meaning::RenderAsk;
 use std::alloc::{AllocError, Global};
 
@@ -17,24 +17,22 @@ pub(crate) fn folded_text(
     alloc: Global,
     history: &[Push],
     ask: &mut RenderAsk,
-) -> Result<Vec<u8>, AddFault>
+) -> Result<Vec<u8>, AllocError>
     requires { tenant_total history.now ask.old.part.tenant < 2 ^ 63 }
     ensures ok { IfOk result (λ text. text.items ≡ rendered history.now ask.old) }
-    ensures err { result ≢ Err AddFault.Sum }
     ensures unchanged { ask.new ≡ ask.old }
 {
     let sums = sums_of_history(alloc, history, ask)?;
-    write_folded(alloc, &sums).map_err(|_| AddFault::Memory)
+    write_folded(alloc, &sums)
 }
 
 fn sums_of_history(
     alloc: Global,
     history: &[Push],
     ask: &mut RenderAsk,
-) -> Result<StackSums, AddFault>
+) -> Result<StackSums, AllocError>
     requires { tenant_total history.now ask.old.part.tenant < 2 ^ 63 }
     ensures ok { IfOk result (λ sums. sums ≡ sums_of_rows (asked_rows history.now ask.old)) }
-    ensures err { result ≢ Err AddFault.Sum }
     ensures unchanged { ask.new ≡ ask.old }
 {
     let mut sums = StackSums::new(alloc);
@@ -50,18 +48,15 @@ fn add_profiles(
     sums: &mut StackSums,
     profiles: &[Profile],
     ask: &mut RenderAsk,
-) -> Result<(), AddFault>
+) -> Result<(), AllocError>
     requires { total_of sums.old + profiles_total profiles.now < 2 ^ 63 }
     ensures ok { OnOk result (sums.new ≡ with_samples sums.old (wanted_samples ask.old profiles.now)) }
     ensures total { OnOk result (total_of sums.new ≤ total_of sums.old + profiles_total profiles.now) }
-    ensures err { result ≢ Err AddFault.Sum }
     ensures unchanged { ask.new ≡ ask.old }
 {
     for profile in profiles {
-        match wants(ask, profile) {
-            Ok(true) => add_values(sums, &profile.values)?,
-            Ok(false) => {}
-            Err(_) => return Err(AddFault::Memory),
+        if wants(ask, profile)? {
+            add_values(sums, &profile.values)?;
         }
     }
     Ok(())
@@ -82,16 +77,17 @@ fn wants(ask: &mut RenderAsk, profile: &Profile) -> Result<bool, AllocError>
     }
 }
 
-fn add_values(sums: &mut StackSums, values: &StackSums) -> Result<(), AddFault>
+fn add_values(sums: &mut StackSums, values: &StackSums) -> Result<(), AllocError>
     requires { total_of sums.old + total_of values.now < 2 ^ 63 }
     ensures ok { OnOk result (sums.new ≡ with_samples sums.old values.now) }
     ensures total { OnOk result (total_of sums.new ≡ total_of sums.old + total_of values.now) }
-    ensures err { result ≢ Err AddFault.Sum }
 {
     for (stack, value) in values.iter() {
-        match stack.clone() {
-            Ok(copy) => sums.add(copy, *value)?,
-            Err(_) => return Err(AddFault::Memory),
+        match sums.add(stack.clone()?, *value) {
+            Ok(()) => {}
+            Err(Refused::Memory) => return Err(AllocError),
+            // The sums stay within the tenant's total.
+            Err(Refused::Fault(_)) => unreachable!(),
         }
     }
     Ok(())

@@ -1,9 +1,8 @@
 // The replies down to their bodies, and that requests are read with ample memory.
-use crate::{
-    Answered, Config, FirstVerdict, PushForm, acknowledge, answer, closing_reply, memory_reply,
-};
+use crate::{Answered, FirstVerdict, acknowledge, answer, closing_reply, memory_reply};
 use http_session::{BadRequest, NextRequest, Reader, Reply, Request, Status, Text};
 use link_trait::MemoryLink;
+use request_meaning::{Config, PushForm};
 use routes::Routes;
 use std::alloc::Global;
 use std::test::Fail;

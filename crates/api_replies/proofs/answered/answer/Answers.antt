@@ -13,7 +13,7 @@ returns-in-Ok-Query c = record {
 pub returns-in-Err-Fault : goal.returns-in-Err-Fault
 returns-in-Err-Fault c =
     let is = c.in-Err-Fault.field-0-is in record {
-      answer = inl (inl (c.in-Err-Fault.refusal, rw is at c.in-Err-Fault.ensures, rw (c.moment.ensures, c.close.ensures, is) at c.reply.ensures));
+      answer = inl (inl (c.in-Err-Fault.refusal, rw is at c.in-Err-Fault.ensures, rw (c.moment.ensures, c.close.ensures, is) at c.refusal_reply.ensures));
     }
 
 pub returns-in-Err-Memory : goal.returns-in-Err-Memory

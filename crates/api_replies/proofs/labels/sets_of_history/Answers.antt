@@ -9,4 +9,4 @@ returns c =
     let history = c.args.history.now in
     let all : drop c.loop-push.push-index history ≡ [] = drop_all c.loop-push.push-index history c.loop-push-test.false in
     let gathered = rw all at c.loop-push.invariant in
-    ap (λ (gathered : Gathered). gathered.sets) gathered ∙ sets_are c.args.selectors.items history c.args.tenant.now c.args.from_ms c.args.until_ms
+    ap (λ (gathered : Gathered). gathered.sets) gathered ∙ sets_are c.args.selectors.items history c.args.part.now.tenant c.args.part.now.from_ms c.args.part.now.until_ms

@@ -7,7 +7,7 @@ use Rattle.api_replies.proofs.render.sums_of_history.Goals as goal
 pub add_profiles-requires : goal.add_profiles-requires
 add_profiles-requires c =
     let own = rw c.loop-push.invariant.same at (sym c.eq.ensures ∙ c.if-eq.true) in
-    let within = tenant_total-within c.args.history.now c.args.ask.now.tenant c.loop-push.push-index c.push-item.result (omega arith) c.push-item.is own in
+    let within = tenant_total-within c.args.history.now c.args.ask.now.part.tenant c.loop-push.push-index c.push-item.result (omega arith) c.push-item.is own in
     let so_far = c.loop-push.invariant.total in let all = c.requires in
     rw c.as_slice.ensures.value (omega arith)
 

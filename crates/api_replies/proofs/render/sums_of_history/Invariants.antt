@@ -8,7 +8,7 @@ use Rattle.api_replies.proofs.render.sums_of_history.Given as goal
 abbrev pub invariant-loop-push : goal.invariant-loop-push
 invariant-loop-push l = record {
   same : l.ask ≡ l.fn.ask;
-  sums : with_samples l.sums (wanted_samples l.fn.ask (profiles_in (drop l.push-index l.history) l.fn.ask.tenant))
-      ≡ with_samples [] (wanted_samples l.fn.ask (profiles_in l.history l.fn.ask.tenant));
-  total : total_of l.sums ≤ tenant_total (take l.push-index l.history) l.fn.ask.tenant;
+  sums : with_samples l.sums (wanted_samples l.fn.ask (profiles_in (drop l.push-index l.history) l.fn.ask.part.tenant))
+      ≡ with_samples [] (wanted_samples l.fn.ask (profiles_in l.history l.fn.ask.part.tenant));
+  total : total_of l.sums ≤ tenant_total (take l.push-index l.history) l.fn.ask.part.tenant;
 }

@@ -4,9 +4,9 @@ ghost use Rattle.std.specs.Prelude.{◌≡◌, ◌↔◌, ◌+◌, ◌<◌, ◌�
 ghost use Rattle.disk_trait.specs.Disk.{Tells, Rose, GoesOn, Leads, Looks, Stays, Touches, IsDurable, bytes_of};
 ghost use Rattle.std.specs.Option.{option_to_list};
 ghost use Rattle.gate_journal.specs.Slots.{bodies_of};
-ghost use Rattle.gate_journal.specs.Journal.{IsSettled, IsUnsettled, IsOpen, SameBodies, list_of, Appends};
+ghost use Rattle.gate_journal.specs.Journal.{IsSettled, IsUnsettled, IsOpen, SameBodies, OthersStay, InAnyWay, list_of, Appends};
 
-use crate::slots::{count_open, ensure_gate, read_slot, sync_if_there};
+use crate::slots::{count_open, ensure_gate, read_slot, sync_if_there, write_body};
 use disk_trait::{Disk, Failed, FileId, write_through};
 use std::marker::Model;
 
@@ -90,6 +90,10 @@ impl Journal {
         // At any moment each image has the bodies that the file had, if nothing of it waited for a sync.
         ensures any_moment { Tells (D.view disk.old) → IsDurable file (D.view disk.old)
             → Leads (Touches file SameBodies) (D.view disk.old) (D.view disk.new) }
+
+        // It touches no other file.
+        ensures others { Tells (D.view disk.old) → OnOk result (OthersStay file (D.view disk.old).files (D.view disk.new).files) }
+        ensures touches { Leads (Touches file InAnyWay) (D.view disk.old) (D.view disk.new) }
         ensures goes_on { GoesOn (D.view disk.old) (D.view disk.new) }
     {
         sync_if_there(disk, file)?;
@@ -138,6 +142,8 @@ impl Journal {
         ensures settled { Tells (D.view disk.old) → OnOk result (IsSettled (D.view disk.new) self.new
             × (list_of (D.view disk.new) self.new ≡ list_of (D.view disk.old) self.old ++ body.now ∷ [])) }
 
+        ensures others { Tells (D.view disk.old) → OnOk result (OthersStay self.old.file (D.view disk.old).files (D.view disk.new).files) }
+
         // Exactly where it holds as many bodies as it may, and then nothing happens.
         ensures full { IsErrOf result AppendFault.Full ↔ (self.old.count ≡ self.old.limit) }
         ensures full_self { IsErrOf result AppendFault.Full → self.new ≡ self.old }
@@ -160,14 +166,11 @@ impl Journal {
         if self.count == self.limit {
             return Err(AppendFault::Full);
         }
-        let gate = 64 * self.count;
         self.sure = false;
-        // The body and the next gate, closed. The gate before them opens them by a write of its own, once they are on
-        // the disk: a crash that tears a write may leave any bytes in its range.
-        let mut block = [0; 64];
-        block[..63].copy_from_slice(body);
-        write_through(disk, self.file, gate + 1, &block)?;
-        write_through(disk, self.file, gate, &[1])?;
+        // The gate opens the slot by a write of its own, once the body is on the disk: a crash that tears a write may
+        // leave any bytes in its range.
+        write_body(disk, self.file, self.count, body)?;
+        write_through(disk, self.file, 64 * self.count, &[1])?;
         self.count += 1;
         self.sure = true;
         Ok(())
@@ -185,6 +188,7 @@ impl Journal {
             × (list_of (D.view disk.new) self.new ≡ list_of (D.view disk.old) self.old ++ option_to_list found)) }
         ensures same_body { (body : List ℕ) → Tells (D.view disk.old) → self.old.sure ≡ false → IsUnsettled (D.view disk.old) self.old body
             → IfOk result (λ found. IfSome found (λ it. it ≡ body)) }
+        ensures others { Tells (D.view disk.old) → OnOk result (OthersStay self.old.file (D.view disk.old).files (D.view disk.new).files) }
 
         ensures err { OnErr result (self.new ≡ self.old) }
         ensures unsettled { (body : List ℕ) → Tells (D.view disk.old) → self.old.sure ≡ false → IsUnsettled (D.view disk.old) self.old body

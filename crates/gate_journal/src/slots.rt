@@ -1,8 +1,8 @@
-// How slots are read.
-ghost use Rattle.std.specs.Prelude.{◌≡◌, ◌*◌, ◌<◌, ◌≤◌, ◌^◌, length, drop, IfOk, OnOk, OnErr, IsSome, MatchOption};
-ghost use Rattle.disk_trait.specs.Disk.{Tells, Rose, GoesOn, Looks, Leads, Stays, Touches, IsDurable, bytes_of};
+// How slots are read and written.
+ghost use Rattle.std.specs.Prelude.{◌≡◌, ◌+◌, ◌*◌, ◌<◌, ◌≤◌, ◌^◌, ◌++◌, [], ◌∷◌, length, drop, IfOk, OnOk, OnErr, IsSome, MatchOption};
+ghost use Rattle.disk_trait.specs.Disk.{Tells, Rose, GoesOn, Looks, Leads, Stays, Touches, TornFile, Written, IsDurable, bytes_of};
 ghost use Rattle.gate_journal.specs.Slots.{body_at, bodies_of, lacks_gate, AtRest};
-ghost use Rattle.gate_journal.specs.Journal.{SameBodies};
+ghost use Rattle.gate_journal.specs.Journal.{SameBodies, OthersStay, InAnyWay};
 
 use disk_trait::{Disk, Failed, FileId, write_through};
 
@@ -82,6 +82,8 @@ pub fn ensure_gate<D: Disk>(disk: &mut D, file: FileId, slot: u64) -> Result<(),
     ensures rests { Tells (D.view disk.old) → OnOk result (AtRest (bodies_of (bytes_of ((D.view disk.old).files file))) ((D.view disk.new).files file)) }
     ensures durable { Tells (D.view disk.old) → (IsSome ((D.view disk.old).files file) → IsDurable file (D.view disk.old)) → OnOk result (IsDurable file (D.view disk.new)) }
     ensures leads { Tells (D.view disk.old) → IsDurable file (D.view disk.old) → Leads (Touches file SameBodies) (D.view disk.old) (D.view disk.new) }
+    ensures others { Tells (D.view disk.old) → OnOk result (OthersStay file (D.view disk.old).files (D.view disk.new).files) }
+    ensures touches { Leads (Touches file InAnyWay) (D.view disk.old) (D.view disk.new) }
     ensures goes_on { GoesOn (D.view disk.old) (D.view disk.new) }
     ensures failed { OnErr result (Rose (D.view disk.old).faults (D.view disk.new).faults) }
     ensures quiet { OnOk result ((D.view disk.new).faults ≡ (D.view disk.old).faults) }
@@ -90,4 +92,25 @@ pub fn ensure_gate<D: Disk>(disk: &mut D, file: FileId, slot: u64) -> Result<(),
         return Ok(());
     }
     write_through(disk, file, 64 * slot, &[0])
+}
+
+/// Writes a body behind its gate, and the next gate, closed. Its own gate stays as it is.
+pub fn write_body<D: Disk>(
+    disk: &mut D,
+    file: FileId,
+    slot: u64,
+    body: &[u8; 63],
+) -> Result<(), Failed>
+    requires bound { slot ≤ 2 ^ 57 }
+    requires behind { Tells (D.view disk.old) → 64 * slot + 1 ≤ length (bytes_of ((D.view disk.old).files file)) }
+    ensures told { Tells (D.view disk.old) → OnOk result (Written file (64 * slot + 1) (body.now ++ 0 ∷ []) (D.view disk.old).files (D.view disk.new).files) }
+    ensures durable { Tells (D.view disk.old) → OnOk result (IsDurable file (D.view disk.new)) }
+    ensures leads { Leads (Touches file (TornFile (64 * slot + 1) 64)) (D.view disk.old) (D.view disk.new) }
+    ensures goes_on { GoesOn (D.view disk.old) (D.view disk.new) }
+    ensures failed { OnErr result (Rose (D.view disk.old).faults (D.view disk.new).faults) }
+    ensures quiet { OnOk result ((D.view disk.new).faults ≡ (D.view disk.old).faults) }
+{
+    let mut block = [0; 64];
+    block[..63].copy_from_slice(body);
+    write_through(disk, file, 64 * slot + 1, &block)
 }

@@ -33,5 +33,8 @@ fn a_place_is_told_from_the_outermost_number_on(rt: HostRuntime) {
     assert_eq!(rt; Place::Pair(3, 4).within(2), Place::Triple(2, 3, 4));
     assert_eq!(rt; Place::Whole.numbers().len(), 0);
     assert_eq!(rt; Place::At(4).numbers().as_slice(), [4].as_slice());
-    assert_eq!(rt; Place::Triple(2, 3, 4).numbers().as_slice(), [2, 3, 4].as_slice());
+    assert_eq!(rt;
+        Place::Triple(2, 3, 4).numbers().as_slice(),
+        [2, 3, 4].as_slice()
+    );
 }

@@ -11,8 +11,8 @@ use crate::session::run_session;
 use crate::status::Status;
 use crate::words::{Command, command_of};
 use link_trait::Link;
-use request_meaning::Config;
 use profile_model::Push;
+use request_meaning::Config;
 use routes::Routes;
 use std::alloc::Global;
 

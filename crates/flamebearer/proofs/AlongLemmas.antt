@@ -1,6 +1,6 @@
 -- Where the making of a tree stands between two stacks.
 use Rattle.std.proofs.Common.{◌≡◌, ℕ, zero, suc, ◌+◌, ◌-◌, ◌^◌, ◌<◌, ◌⊎◌, inl, inr, List, [], ◌∷◌, ◌++◌, length, map, take, get_or, arith, refl, sym, ap, ◌∙◌, subst, append_assoc, ⊎_elim}
-use Rattle.std.specs.Prelude.{sum_by}
+use Rattle.std.specs.Prelude.{sum_by, if◌then◌else◌}
 use Rattle.std.specs.List.{All, AllByRecursion, IsDistinct, list_any}
 use Rattle.std.specs.List.Sorted.{IsStrictlySortedBy}
 use Rattle.std.specs.Map.{keys_of, values_of}
@@ -13,13 +13,17 @@ use Rattle.profile_model.specs.Stacks.{stack_cmp}
 use Rattle.profile_model.specs.StackOrder.{stack_eq}
 use Rattle.profile_model.specs.Sums.{Sample, total_of, AreSums}
 use Rattle.flamebearer.specs.declared.tree.Entry.{Entry}
-use Rattle.flamebearer.specs.Trees.{Node, firsts, node_of, tree_of}
-use Rattle.flamebearer.specs.Entries.{AreDeep, ArePlaces, nodes_of, path_after, stacks_of}
+use Rattle.flamebearer.specs.Trees.{Node, begins_with, beginning_with, firsts, node_of, tree_of}
+use Rattle.flamebearer.specs.Entries.{AreDeep, ArePlaces, frame_of, nodes_of, path_after, stacks_of}
+use Rattle.flamebearer.specs.Branches.{AreOrdered}
+use Rattle.flamebearer.specs.Sides.{AreSummed, own_below}
 use Rattle.flamebearer.specs.Pushes.{IsPushed, fresh, fronts, grown}
 use Rattle.flamebearer.proofs.PrefixLemmas.{cut_short, one_more, same_stack}
 use Rattle.flamebearer.proofs.FirstLemmas.{found_of}
-use Rattle.flamebearer.proofs.WalkLemmas.{IsWalked, IsNext, total-le, tree-push, walked-none, walked-push}
+use Rattle.flamebearer.proofs.WalkLemmas.{IsWalked, IsNext, total-le, total-push, tree-push, walked-none, walked-push}
 use Rattle.flamebearer.proofs.NodeLemmas.{own-last, own-more, length-stacks, take-front}
+use Rattle.flamebearer.proofs.PartLemmas.{ordered-parts}
+use Rattle.flamebearer.proofs.SummedLemmas.{own_below-push, summed}
 
 pub record IsAlong (values rest : List Sample) (before : List (List ℕ)) (entries : List Entry) (spine : List ℕ) : Type 0 where
   pub done : List Sample
@@ -30,6 +34,7 @@ pub record IsAlong (values rest : List Sample) (before : List (List ℕ)) (entri
   pub walked : IsWalked done before
   pub deep : AreDeep entries
   pub sum : sum_by (λ node. node.own) (nodes_of entries) ≡ total_of done
+  pub summed : (p : List (List ℕ)) → own_below p (nodes_of entries) ≡ total_of (beginning_with p done)
   pub sorted : IsStrictlySortedBy stack_cmp (keys_of rest)
   pub above : (before ≡ []) ⊎ AllByRecursion (λ key. stack_cmp before key ≡ Less) (keys_of rest)
   pub bounded : total_of values < 2 ^ 63
@@ -45,6 +50,7 @@ along-none values sums = record {
   walked = walked-none;
   deep = refl;
   sum = refl;
+  summed = λ p. refl;
   sorted = sums.ascending;
   above = inl refl;
   bounded = sums.bounded;
@@ -177,24 +183,14 @@ along-push values all rest before entries new spine after stack value along is s
       sum = sum-push pushed.shared stack value (nodes_of entries) (nodes_of new) pushed.nodes
           (let part = pushed.part in cut_short pushed.shared before stack part set.greater)
           ∙ ap (λ n. n + value) along.sum ∙ sym (total-last along.done stack value);
+      summed = λ p. own_below-push p pushed.shared stack value (nodes_of entries) (nodes_of new) pushed.nodes
+          (let part = pushed.part in cut_short pushed.shared before stack part set.greater)
+          ∙ ap (λ n. n + (if begins_with p stack then value else 0)) (along.summed p)
+          ∙ sym (total-push p along.done stack value);
       sorted = sorted.1;
       above = inr sorted.0;
       bounded = along.bounded;
     }
-
-pub along-fits : (values rest : List Sample) (before : List (List ℕ)) (entries : List Entry) (spine : List ℕ) → IsAlong values rest before entries spine
-    → All (λ node. node.total < 2 ^ 63) (nodes_of entries)
-unfolding tree_of node_of
-along-fits values rest before entries spine along =
-    let whole = total-whole along.done rest in
-    let all : total_of values ≡ total_of along.done + total_of rest = ap total_of (sym along.whole) ∙ whole in
-    let bounded = along.bounded in
-    All-from_recursion (λ node. node.total < 2 ^ 63) (nodes_of entries)
-    (subst (AllByRecursion (λ node. node.total < 2 ^ 63)) (sym along.nodes) (each along.done (omega arith) (found_of along.done)))
-  where
-    each : (done : List Sample) → total_of done < 2 ^ 63 → (found : List (List (List ℕ))) → AllByRecursion (λ node. node.total < 2 ^ 63) (map (node_of done) found)
-    each done few [] = tt
-    each done few (s ∷ found) = ((let le = total-le s done in omega arith), each done few found)
 
 pub along-sum : (values rest : List Sample) (before : List (List ℕ)) (entries : List Entry) (spine : List ℕ) → IsAlong values rest before entries spine
     → sum_by (λ node. node.own) (nodes_of entries) < 2 ^ 63
@@ -203,3 +199,17 @@ along-sum values rest before entries spine along =
     let all : total_of values ≡ total_of along.done + total_of rest = ap total_of (sym along.whole) ∙ whole in
     let bounded = along.bounded in
     let sum = along.sum in omega arith
+
+-- in order, with totals that come to their own values
+pub record AreWhole (entries : List Entry) : Type 0 where
+  pub ordered : AreOrdered (map frame_of entries)
+  pub summed : AreSummed (nodes_of entries)
+  pub bounded : sum_by (λ node. node.own) (nodes_of entries) < 2 ^ 63
+
+pub along-whole : (values rest : List Sample) (before : List (List ℕ)) (entries : List Entry) (spine : List ℕ) → IsAlong values rest before entries spine
+    → AreWhole entries
+along-whole values rest before entries spine along = record {
+  ordered = ordered-parts entries along.deep (subst (IsStrictlySortedBy stack_cmp) (sym (stacks-found along.done entries along.nodes)) along.walked.ascending);
+  summed = summed along.done (nodes_of entries) along.nodes along.summed;
+  bounded = along-sum values rest before entries spine along;
+}

@@ -2,9 +2,9 @@
 use Rattle.std.proofs.Common.{◌≡◌, ℕ, ◌+◌, ◌<◌, ◌≤◌, List, length, get_or, set, arith, sym, ◌∙◌, subst, ⊎_elim}
 use Rattle.std.proofs.lemmas.Bool.{cases_lt}
 use Rattle.std.proofs.lemmas.List.{get_or-map, get_or-set_other, get_or-set_same, length-map, length-set}
-use Rattle.flamebearer.specs.declared.tree.Entry.{Entry}
+use Rattle.flamebearer.specs.declared.branches.Frame.{Frame}
 use Rattle.flamebearer.specs.Ends.{AreEnds, IsEnd}
-use Rattle.flamebearer.specs.Entries.{depths_of}
+use Rattle.flamebearer.specs.Branches.{depths_of}
 
 -- all between are deeper
 pub record AreDeeper (depths : List ℕ) (at end : ℕ) : Type 0 where
@@ -35,11 +35,11 @@ deeper-more depths at end next deep here is =
 pub is_end : (depths : List ℕ) (at end : ℕ) → AreDeeper depths at end → (end < length depths → get_or depths end 0 ≤ get_or depths at 0) → IsEnd depths at end
 is_end depths at end deep stops = record { later = deep.later; within = deep.within; deeper = deep.deeper; stops = stops }
 
-pub depth-at : (entries : List Entry) (i : ℕ) (d : Entry) → i < length entries → get_or (depths_of entries) i 0 ≡ (get_or entries i d).depth
-depth-at entries i d within = get_or-map (λ (e : Entry). e.depth) entries i d 0 within
+pub depth-at : (frames : List Frame) (i : ℕ) (d : Frame) → i < length frames → get_or (depths_of frames) i 0 ≡ (get_or frames i d).depth
+depth-at frames i d within = get_or-map (λ (f : Frame). f.depth) frames i d 0 within
 
-pub length-depths : (entries : List Entry) → length (depths_of entries) ≡ length entries
-length-depths entries = length-map entries (λ (e : Entry). e.depth)
+pub length-depths : (frames : List Frame) → length (depths_of frames) ≡ length frames
+length-depths frames = length-map frames (λ (f : Frame). f.depth)
 
 -- one place more
 pub ends-more : (at end : ℕ) (depths ends : List ℕ) → AreEnds (at + 1) depths ends → at < length depths → IsEnd depths at end → AreEnds at depths (set ends at end)

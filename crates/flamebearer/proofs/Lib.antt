@@ -3,5 +3,17 @@ pub mod PrefixLemmas
 pub mod FirstLemmas
 pub mod WalkLemmas
 pub mod NodeLemmas
+pub mod PartLemmas
+pub mod SummedLemmas
 pub mod AlongLemmas
 pub mod EndLemmas
+pub mod ChildLemmas
+pub mod PlaceLemmas
+pub mod GrowLemmas
+pub mod SpanLemmas
+pub mod LevelLemmas
+pub mod RankLemmas
+pub mod NumberLemmas
+pub mod GatherLemmas
+pub mod RowLemmas
+pub mod PictureLemmas

@@ -112,3 +112,12 @@ length_begun p stack is = short (length p) stack (ap length (begun p stack is))
     short zero xs is = omega arith
     short (suc n) [] is = absurd (omega arith)
     short (suc n) (x ∷ xs) is = let later = short n xs (omega arith) in omega arith
+
+-- a shorter front of a stack is below a longer one
+pub shorter_below : (n m : ℕ) (stack : List (List ℕ)) → n < m → m ≤ length stack → stack_cmp (take n stack) (take m stack) ≡ Less
+shorter_below n m [] less within = absurd (omega arith)
+shorter_below zero zero (x ∷ xs) less within = absurd (omega arith)
+shorter_below zero (suc m) (x ∷ xs) less within = refl
+shorter_below (suc n) zero (x ∷ xs) less within = absurd (omega arith)
+shorter_below (suc n) (suc m) (x ∷ xs) less within =
+    ap (λ o. ordering_then o (stack_cmp (take n xs) (take m xs))) (tied_itself nat_list_cmp_total x) ∙ shorter_below n m xs (omega arith) (omega arith)

@@ -2,6 +2,7 @@
 use Rattle.std.proofs.Common.{◌≡◌, ℕ, zero, suc, ◌+◌, ◌-◌, ◌<◌, ◌≤◌, ◌||◌, List, [], ◌∷◌, ◌++◌, length, map, take, Bool, true, false, cond, arith, refl, sym, ap, ◌∙◌, Some, None, subst, ⊎_elim}
 use Rattle.std.specs.Prelude.{◌&&◌, not, nat_lt, unwrap_or, sum_by, if◌then◌else◌}
 use Rattle.std.specs.List.{AllByRecursion, IsDistinct, list_any}
+use Rattle.std.specs.List.Sorted.{IsStrictlySortedBy}
 use Rattle.std.specs.Map.{keys_of, values_of, lookup}
 use Rattle.std.specs.BTreeMap.{is_at}
 use Rattle.std.specs.Cmp.{tied_itself}
@@ -21,7 +22,7 @@ use Rattle.profile_model.specs.StackOrder.{stack_eq, stacks_ties, stacks_total}
 use Rattle.flamebearer.specs.Trees.{begins_with, beginning_with, firsts, node_of, tree_of}
 use Rattle.flamebearer.specs.Parts.{PartAt}
 use Rattle.flamebearer.specs.Pushes.{fresh, fronts, grown}
-use Rattle.flamebearer.proofs.PrefixLemmas.{AreBelow, above_is_new, begins_with_take, begun, cut, length_begun, other_length, same_stack, stack_same, take_below}
+use Rattle.flamebearer.proofs.PrefixLemmas.{AreBelow, above_is_new, begins_with_take, begun, cut, length_begun, other_length, same_stack, shorter_below, stack_same, take_below}
 use Rattle.flamebearer.proofs.FirstLemmas.{found_of, found_of-push}
 
 abbrev Stack : Type 0
@@ -53,6 +54,20 @@ distinct-fronts stack from (suc count) within = (
       let shorter = length-take-le (from + 1) stack (omega arith) in
       other_length (take (from + 1) stack) (take (n + 1) stack) (λ same. absurd (omega arith))),
   distinct-fronts stack (from + 1) count (omega arith),
+)
+
+ascending-append : (xs ys : List Stack) → IsStrictlySortedBy stack_cmp xs → IsStrictlySortedBy stack_cmp ys
+    → AllByRecursion (λ x. AllByRecursion (λ y. stack_cmp x y ≡ Less) ys) xs → IsStrictlySortedBy stack_cmp (xs ++ ys)
+unfolding IsStrictlySortedBy
+ascending-append [] ys a b apart = b
+ascending-append (x ∷ xs) ys a b apart = (all-append (λ y. stack_cmp x y ≡ Less) xs ys a.0 apart.0, ascending-append xs ys a.1 b apart.1)
+
+ascending-fronts : (stack : Stack) (from count : ℕ) → from + count ≤ length stack → IsStrictlySortedBy stack_cmp (fronts stack from count)
+unfolding IsStrictlySortedBy
+ascending-fronts stack from zero within = tt
+ascending-fronts stack from (suc count) within = (
+  all-fronts (λ y. stack_cmp (take (from + 1) stack) y ≡ Less) stack (from + 1) count (λ n far near. shorter_below (from + 1) (n + 1) stack (omega arith) (omega arith)),
+  ascending-fronts stack (from + 1) count (omega arith),
 )
 
 map-all : {X Y Z : Type 0} (f : X → Z) (g : Y → Z) (h : X → Y) (xs : List X) → AllByRecursion (λ x. f x ≡ g (h x)) xs → map f xs ≡ map g (map h xs)
@@ -112,7 +127,7 @@ total-none p (e ∷ es) none = by (begins_with p e.0) none (total-none p es)
     by true none later = absurd (true≢false none)
     by false none later = later none
 
-total-push : (p : Stack) (samples : List Sample) (stack : Stack) (value : ℕ)
+pub total-push : (p : List (List ℕ)) (samples : List Sample) (stack : List (List ℕ)) (value : ℕ)
     → total_of (beginning_with p (samples ++ (stack, value) ∷ [])) ≡ total_of (beginning_with p samples) + (if begins_with p stack then value else 0)
 total-push p samples stack value =
     ap total_of (filter-append (λ (e : Sample). begins_with p e.0) samples ((stack, value) ∷ []))
@@ -140,12 +155,13 @@ total-le p (e ∷ es) = by (begins_with p e.0) (total-le p es) (sum_by-cons (λ 
 -- where a walk stands that has come to this path
 pub record IsWalked (samples : List Sample) (path : List (List ℕ)) : Type 0 where
   pub distinct : IsDistinct stack_eq (found_of samples)
+  pub ascending : IsStrictlySortedBy stack_cmp (found_of samples)
   pub below : AreBelow path (found_of samples)
   pub met : (p : List (List ℕ)) → 0 < length p → list_any (stack_eq p) (found_of samples) ≡ false → list_any (begins_with p) (keys_of samples) ≡ false
 
 pub walked-none : IsWalked [] []
-unfolding firsts IsDistinct
-walked-none = record { distinct = tt; below = tt; met = λ p some none. refl }
+unfolding firsts IsDistinct IsStrictlySortedBy
+walked-none = record { distinct = tt; ascending = tt; below = tt; met = λ p some none. refl }
 
 -- the next stack: greater than the path, with which it shares c frames, whose nodes are there
 pub record IsNext (samples : List Sample) (path stack : List (List ℕ)) (c : ℕ) : Type 0 where
@@ -231,9 +247,13 @@ walked-push samples path stack value c walked next =
     let above : (q : Stack) → ((m : Stack) → stack_cmp path m ≡ Less → stack_cmp q m ≡ Less) → AllByRecursion (λ y. stack_eq q y ≡ false) new =
     λ q below. all-fronts (λ y. stack_eq q y ≡ false) stack c rest (λ n far near.
     stacks_ties q (take (n + 1) stack) ∙ ap is_eq (below (take (n + 1) stack) (cut c n path stack next.part next.greater far (omega arith)))) in
+    let lower : (q : Stack) → ((m : Stack) → stack_cmp path m ≡ Less → stack_cmp q m ≡ Less) → AllByRecursion (λ y. stack_cmp q y ≡ Less) new =
+    λ q below. all-fronts (λ y. stack_cmp q y ≡ Less) stack c rest (λ n far near. below (take (n + 1) stack) (cut c n path stack next.part next.greater far (omega arith))) in
     record {
       distinct = subst (IsDistinct stack_eq) (sym is)
           (distinct-append found new walked.distinct (distinct-fronts stack c rest (omega arith)) (all_map above found walked.below));
+      ascending = subst (IsStrictlySortedBy stack_cmp) (sym is)
+          (ascending-append found new walked.ascending (ascending-fronts stack c rest (omega arith)) (all_map lower found walked.below));
       below = subst (AreBelow stack) (sym is)
           (all-append (λ q. (m : Stack) → stack_cmp stack m ≡ Less → stack_cmp q m ≡ Less) found new
           (all_map (λ q below m more. below m (stacks_total.trans path stack m next.greater more)) found walked.below)

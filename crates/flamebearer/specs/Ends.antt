@@ -1,8 +1,5 @@
 -- Where subtrees end, in a list of depths in preorder.
-use Rattle.std.specs.Prelude.{◌≡◌, ℕ, ◌^◌, ◌<◌, ◌≤◌, List, length, get_or, sum_by}
-use Rattle.std.specs.List.{All}
-use Rattle.flamebearer.specs.Entries.{AreDeep, depths_of, nodes_of}
-use Rattle.flamebearer.specs.declared.tree.Entry.{Entry}
+use Rattle.std.specs.Prelude.{◌≡◌, ℕ, ◌<◌, ◌≤◌, List, length, get_or}
 
 -- the first later place that doesn't stand below this one
 pub record IsEnd (depths : List ℕ) (at end : ℕ) : Type 0 where
@@ -15,10 +12,3 @@ pub record IsEnd (depths : List ℕ) (at end : ℕ) : Type 0 where
 pub record AreEnds (from : ℕ) (depths ends : List ℕ) : Type 0 where
   pub many : length ends ≡ length depths
   pub each : (n : ℕ) → from ≤ n → n < length depths → IsEnd depths n (get_or ends n 0)
-
--- what a tree keeps: depths, ends, and no sum of values that reaches 2^63
-pub record AreKept (entries : List Entry) (ends : List ℕ) : Type 0 where
-  pub deep : AreDeep entries
-  pub right : AreEnds 0 (depths_of entries) ends
-  pub totals : All (λ node. node.total < 2 ^ 63) (nodes_of entries)
-  pub owns : sum_by (λ node. node.own) (nodes_of entries) < 2 ^ 63

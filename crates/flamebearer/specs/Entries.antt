@@ -3,7 +3,16 @@ use Rattle.std.specs.Prelude.{◌≡◌, ℕ, ◌+◌, ◌-◌, ◌^◌, ◌<◌
 use Rattle.std.specs.List.{AllByRecursion, IsDistinct}
 use Rattle.profile_model.specs.StackOrder.{stack_eq}
 use Rattle.flamebearer.specs.Trees.{Node}
+use Rattle.flamebearer.specs.declared.branches.Frame.{Frame}
+use Rattle.flamebearer.specs.declared.branches.Value.{Value}
 use Rattle.flamebearer.specs.declared.tree.Entry.{Entry}
+
+-- an entry's frame, and its values
+abbrev pub frame_of : Entry → Frame
+frame_of entry = record { name = entry.name; depth = entry.depth }
+
+abbrev pub values_of : Entry → Value
+values_of entry = record { own = entry.own; total = entry.total }
 
 -- an entry's stack: its frame, below as many frames of the entry before as its depth says
 abbrev pub stack_of : List (List ℕ) → Entry → List (List ℕ)

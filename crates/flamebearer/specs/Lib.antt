@@ -1,6 +1,12 @@
 pub mod Trees
-pub mod Flames
+pub mod Sides
+pub mod Pictures
 pub mod Parts
 pub mod Pushes
 pub mod Entries
 pub mod Ends
+pub mod Branches
+pub mod Spots
+pub mod Ranks
+pub mod Names
+pub mod Rows

@@ -1,8 +1,18 @@
 //! Flame graphs of stacks and their values.
 #![tactic(auto)]
 
+mod branches;
+mod drawing;
+mod kept;
+mod levels;
+mod names;
+mod pictures;
+mod rows;
 mod tree;
 
+pub use branches::{Branches, Frame, Value};
+pub use drawing::{picture, single};
+pub use pictures::{Flame, Picture};
 pub use tree::Tree;
 
 #[cfg(test)]

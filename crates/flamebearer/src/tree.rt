@@ -1,14 +1,15 @@
 // The tree of some stacks.
-ghost use Rattle.std.specs.Prelude.{◌≡◌, ◌+◌, ◌-◌, ◌^◌, ◌<◌, ◌++◌, [], ◌∷◌, length, map, take, IfOk, OnOk};
+ghost use Rattle.std.specs.Prelude.{◌≡◌, ◌+◌, ◌-◌, ◌^◌, ◌<◌, ◌++◌, [], ◌∷◌, length, map, sum_by, take, IfOk, OnOk};
 ghost use Rattle.std.specs.List.{AllByRecursion, IsDistinct};
 ghost use Rattle.std.specs.declared.cmp.Ordering.TheVariants.{Less};
 ghost use Rattle.profile_model.specs.Stacks.{stack_cmp};
 ghost use Rattle.profile_model.specs.StackOrder.{stack_eq};
-ghost use Rattle.flamebearer.specs.Ends.{AreEnds, IsEnd};
-ghost use Rattle.flamebearer.specs.Entries.{AreDeep, ArePlaces, CanGrow, depths_of, nodes_of, path_after, stacks_of};
+ghost use Rattle.flamebearer.specs.Entries.{AreDeep, ArePlaces, CanGrow, depths_of, frame_of, nodes_of, path_after, stacks_of, values_of};
 ghost use Rattle.flamebearer.specs.Parts.{PartAt};
 ghost use Rattle.flamebearer.specs.Pushes.{fresh, fronts, grown, IsPushed};
 
+use crate::branches::{Branches, Frame, Value};
+use crate::levels::total_own;
 use profile_model::{Name, StackSums};
 use std::alloc::{AllocError, Global};
 use std::marker::Model;
@@ -16,25 +17,25 @@ use std::marker::Model;
 /// Each stack that was met or begins one that was, in preorder, with its values.
 #[derive(Drop)]
 pub struct Tree {
-    entries: Vec<Entry>,
-    ends: Vec<usize>,
+    branches: Branches,
+    values: Vec<Value>,
 }
 
 impl Model for Tree {
     ghost use Rattle.std.specs.Prelude.{List};
     ghost use Rattle.flamebearer.specs.Trees.{Node};
-    ghost use Rattle.flamebearer.specs.Entries.{nodes_of};
-    ghost use Rattle.flamebearer.specs.Ends.{AreKept};
+    ghost use Rattle.flamebearer.specs.Sides.{IsSide, nodes_with};
 
     ghost Value = { List Node };
 
-    ghost view = { λ t. nodes_of t.entries.items };
+    ghost view = { λ t. nodes_with t.branches t.values.items };
 
-    ghost invariant = { λ t. AreKept t.entries.items t.ends.items };
+    ghost invariant = { λ t. IsSide t.branches t.values.items };
 }
 
 impl Tree {
     ghost use Rattle.flamebearer.specs.Trees.{tree_of};
+    ghost use Rattle.flamebearer.specs.Sides.{IsSide, nodes_with};
 
     /// The tree of these stacks. It copies no bytes of their frames.
     pub fn of(alloc: Global, values: &StackSums) -> Result<Tree, AllocError>
@@ -47,18 +48,64 @@ impl Tree {
             push_stack(&mut entries, &mut spine, before, stack.frames(), *value)?;
             before = stack.frames();
         }
-        let ends = ends_of(alloc, &entries)?;
-        Ok(Tree { entries, ends })
+        let values = all_values(alloc, &entries)?;
+        let branches = Branches::of(alloc, into_frames(alloc, entries)?)?;
+        Ok(Tree { branches, values })
+    }
+
+    /// The values of all its stacks together.
+    pub fn total(&self) -> u64
+        ensures total { result ≡ sum_by (λ node. node.own) self.now }
+        ensures bound { result < 2 ^ 63 }
+    {
+        total_own(&self.values)
+    }
+
+    /// Its stacks and their values.
+    pub fn parts(&self) -> (&Branches, &[Value])
+        ensures nodes { nodes_with result.0.now result.1.now ≡ self.now }
+        ensures side { IsSide result.0.now result.1.now }
+    {
+        (&self.branches, &self.values)
     }
 }
 
-// A node's last frame and how deep it stands, from 1.
+// A node's last frame and how deep it stands, from 1, and its values.
 #[derive(Drop)]
 struct Entry {
     name: Name,
     depth: usize,
     own: u64,
     total: u64,
+}
+
+fn values_of(entry: &Entry) -> Value
+    ensures { result ≡ values_of entry.now }
+{
+    Value {
+        own: entry.own,
+        total: entry.total,
+    }
+}
+
+// The values of entries.
+fn all_values(alloc: Global, entries: &[Entry]) -> Result<Vec<Value>, AllocError>
+    ensures { IfOk result (λ values. values.items ≡ map values_of entries.now) }
+{
+    entries.iter().map(|entry| values_of(entry)).collect(alloc)
+}
+
+// The frames of entries.
+fn into_frames(alloc: Global, entries: Vec<Entry>) -> Result<Vec<Frame>, AllocError>
+    ensures { IfOk result (λ frames. frames.items ≡ map frame_of entries.items) }
+{
+    entries
+        .into_iter()
+        .map(|entry| Frame {
+            name: entry.name,
+            depth: entry.depth,
+        })
+        .collect(alloc)
 }
 
 // How many frames two stacks share from the root on.
@@ -158,31 +205,4 @@ fn push_stack(
     grow(entries, spine, value);
     push_rest(entries, spine, frames, shared, value)?;
     Ok(())
-}
-
-// For each node the place of the first later one that doesn't stand below it.
-fn ends_of(alloc: Global, entries: &[Entry]) -> Result<Vec<usize>, AllocError>
-    ensures { IfOk result (λ ends. AreEnds 0 (depths_of entries.now) ends.items) }
-{
-    let mut ends = vec![in alloc; 0; entries.len()]?;
-    let mut at = entries.len();
-    while at > 0 {
-        at -= 1;
-        ends[at] = end_of(entries, &ends, at);
-    }
-    Ok(ends)
-}
-
-// What is deeper ends where its own last one does, so the search steps over whole subtrees.
-fn end_of(entries: &[Entry], ends: &[usize], at: usize) -> usize
-    requires within { at < length entries.now }
-    requires ends { AreEnds (at + 1) (depths_of entries.now) ends.now }
-    ensures { IsEnd (depths_of entries.now) at result }
-{
-    let depth = entries[at].depth;
-    let mut end = at + 1;
-    while end < entries.len() && depth < entries[end].depth {
-        end = ends[end];
-    }
-    end
 }

@@ -1,8 +1,9 @@
-use Rattle.std.proofs.Common.{length, subst, ◌∙◌}
-use Rattle.flamebearer.specs.Entries.{ArePlaces, depths_of, nodes_of}
-use Rattle.flamebearer.specs.Ends.{AreEnds}
+use Rattle.std.proofs.Common.{length, subst, sym, ◌∙◌}
+use Rattle.flamebearer.specs.Entries.{ArePlaces, nodes_of}
+use Rattle.flamebearer.specs.Branches.{AreOrdered}
 use Rattle.flamebearer.specs.Pushes.{IsPushed}
-use Rattle.flamebearer.proofs.AlongLemmas.{along-fits, along-none, along-push, along-sum, ready}
+use Rattle.flamebearer.proofs.AlongLemmas.{along-end, along-none, along-push, along-whole, ready}
+use Rattle.flamebearer.proofs.PartLemmas.{nodes-parts, side-parts}
 use Rattle.flamebearer.proofs.tree.Tree.of.Goals as goal
 
 pub loop-stack-init : goal.loop-stack-init
@@ -33,10 +34,16 @@ loop-stack-preserved c =
     (subst (λ stack. ArePlaces new after stack (length stack)) is done.places)
     done.deep)
 
+pub of-requires : goal.of-requires
+of-requires c = subst AreOrdered (sym c.in_ok-into_frames.ensures) (along-whole _ _ _ _ _ c.loop-stack.invariant).ordered
+
 pub invariant_of-result : goal.invariant_of-result
-invariant_of-result c = record {
-  deep = c.loop-stack.invariant.deep;
-  right = subst (λ entries. AreEnds 0 (depths_of entries) c.in_ok-ends.ends.items) c.deref.ensures.value c.in_ok-ends.ensures;
-  totals = along-fits _ _ _ _ _ c.loop-stack.invariant;
-  owns = along-sum _ _ _ _ _ c.loop-stack.invariant;
+invariant_of-result c =
+    let whole = along-whole _ _ _ _ _ c.loop-stack.invariant in
+    rw (c.in_ok-branches.ensures, c.in_ok-values.ensures, c.deref.ensures.value, c.in_ok-into_frames.ensures) (side-parts c.loop-stack.entries.items whole.summed whole.bounded)
+
+pub returns : goal.returns
+returns c = record {
+  tree = rw (c.in_ok-branches.ensures, c.in_ok-values.ensures, c.deref.ensures.value, c.in_ok-into_frames.ensures)
+      (nodes-parts c.loop-stack.entries.items ∙ along-end c.args.values.now _ _ _ _ c.loop-stack.invariant c.in-None.ensures.steps.0);
 }

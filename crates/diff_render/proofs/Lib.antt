@@ -1,0 +1,6 @@
+pub mod OrderLemmas
+pub mod NodeLemmas
+pub mod HalfLemmas
+pub mod BranchLemmas
+pub mod JoinLemmas
+pub mod EndLemmas

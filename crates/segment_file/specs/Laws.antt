@@ -1,6 +1,7 @@
 -- What holds of all objects and their files.
 use Rattle.std.specs.Prelude.{◌≡◌, ℕ, ◌+◌, ◌^◌, ◌<◌, ◌≤◌, List, length}
 use Rattle.std.specs.List.{All}
+use Rattle.profile_model.specs.Limits.{most_weight}
 use Rattle.profile_model.specs.Weights.{push_weight}
 use Rattle.profile_model.specs.declared.push.Push.{Push}
 use Rattle.segment_file.specs.declared.fault.ObjectRule.{ObjectRule}
@@ -41,7 +42,7 @@ OneFault = (bytes : List ℕ) (rule other : ObjectRule) (at place : ℕ) → IsB
 
 -- the push is within its limit of weight
 abbrev pub IsLight : Push → Type 0
-IsLight push = push_weight push ≤ 268435456
+IsLight push = push_weight push ≤ most_weight
 
 -- Light pushes that keep the rules of their types have room for their numbers and lengths, where there are fewer than
 -- 2^64 up to the last of them.

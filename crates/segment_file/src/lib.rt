@@ -21,6 +21,9 @@ mod reader_samples;
 mod tests;
 #[cfg(test)]
 mod tests_decode;
+mod rules;
+#[cfg(test)]
+mod tests;
 mod texts;
 
 pub use decoding::decode;

@@ -1,9 +1,13 @@
 // Consecutive pushes of a history.
+ghost use Rattle.profile_model.specs.Limits.{most_weight};
+ghost use Rattle.profile_model.specs.Weights.{push_weight};
 ghost use Rattle.segment_file.specs.Fields.{Fit};
 ghost use Rattle.segment_file.specs.Files.{file_fields};
 ghost use Rattle.segment_file.specs.Objects.{file_of};
-ghost use Rattle.std.specs.Prelude.{◌≡◌, ◌≢◌, ℕ, ◌+◌, ◌^◌, ◌<◌, [], length};
+ghost use Rattle.std.specs.Prelude.{◌≡◌, ◌≢◌, ℕ, ◌+◌, ◌^◌, ◌<◌, ◌≤◌, [], length};
+ghost use Rattle.std.specs.List.{All};
 
+use crate::rules::look_at_pushes;
 use profile_model::Push;
 use std::marker::Model;
 
@@ -28,8 +32,20 @@ impl Model for Object {
 }
 
 impl Object {
-    /// These pushes, the first of them number `lo`. Each length among them has room in four bytes, as in pushes that are
-    /// within their limit of weight. It takes no memory.
+    /// Pushes within their limit of weight, the first of them number `lo`. It takes no memory, and looks at each text once.
+    pub fn of_light(lo: u64, pushes: Vec<Push>) -> Object
+        requires some { pushes.items ≢ [] }
+        requires within { lo + length pushes.items < 2 ^ 64 }
+        requires light { All (λ push. push_weight push ≤ most_weight) pushes.items }
+        ensures lo { result.lo ≡ lo }
+        ensures pushes { result.pushes ≡ pushes.items }
+    {
+        look_at_pushes(&pushes);
+        Object::from_pushes(lo, pushes)
+    }
+
+    /// These pushes, the first of them number `lo`. Each length among them has room in four bytes, as among the pushes of
+    /// another object. It takes no memory.
     pub fn from_pushes(lo: u64, pushes: Vec<Push>) -> Object
         requires some { pushes.items ≢ [] }
         requires within { lo + length pushes.items < 2 ^ 64 }

@@ -5,17 +5,13 @@ ghost use Rattle.profile_model.specs.LabelSets.{AreProfileLabels};
 ghost use Rattle.segment_file.specs.Laws.{IsLight};
 
 use super::*;
-use crate::encode::put_pushes;
 use profile_model::{
-    LabelSet, MAX_PROFILES, Name, PartAsk, Profile, ProfileType, Profiles, Push, Stack, StackSums,
-    Tenant,
+    LabelSet, MAX_PROFILES, MAX_WEIGHT, Name, PartAsk, Profile, ProfileType, Profiles, Push, Stack,
+    StackSums, Tenant,
 };
 use std::alloc::Global;
 use std::sync::ArcSlice;
 use std::test::Fail;
-
-// The most that a push may weigh.
-const MAX_WEIGHT: u64 = 268_435_456;
 
 // What an object of one push says of itself.
 fn numbers(alloc: Global) -> Result<(u64, u64, usize), Fail> {
@@ -54,13 +50,12 @@ fn are_light(pushes: &[Push]) -> bool
     pushes.iter().all(|push| push.weight() <= MAX_WEIGHT)
 }
 
-// The object of these pushes, where they are some and have room.
-fn object(alloc: Global, lo: u8, pushes: Vec<Push>) -> Result<Option<Object>, Fail> {
-    put_pushes(&mut Vec::new(alloc), &pushes)?;
+// The object of these pushes, where they are some and within their limit of weight.
+fn object(lo: u8, pushes: Vec<Push>) -> Option<Object> {
     if pushes.is_empty() || !are_light(&pushes) {
-        return Ok(None);
+        return None;
     }
-    Ok(Some(Object::from_pushes(u64::from(lo), pushes)))
+    Some(Object::of_light(u64::from(lo), pushes))
 }
 
 fn stack(alloc: Global, texts: &[&str]) -> Result<Stack, Fail> {
@@ -137,7 +132,7 @@ fn two(alloc: Global) -> Result<Vec<Push>, Fail> {
 }
 
 fn is_encoded(alloc: Global, lo: u8, pushes: Vec<Push>, bytes: &[u8]) -> Result<bool, Fail> {
-    match object(alloc, lo, pushes)? {
+    match object(lo, pushes) {
         Some(object) => Ok(object.encode(alloc)?.as_slice() == bytes),
         None => Ok(false),
     }
@@ -225,7 +220,7 @@ fn finds(
     ask: &PartAsk,
     expected: &[(u64, u64, u64)],
 ) -> Result<bool, Fail> {
-    match object(alloc, 5, pushes(alloc)?)? {
+    match object(5, pushes(alloc)?) {
         Some(object) => {
             let part = object.into_part(alloc, from, until, ask)?;
             Ok(part.from == from && part.until == until && are_rows(&part.rows, expected))

@@ -1,5 +1,5 @@
 -- A tenant's profiles in a stretch of pushes.
-use Rattle.std.specs.Prelude.{◌&&◌, ℕ, Bool, List, map, filter, nat_eq, nat_le, nat_lt}
+use Rattle.std.specs.Prelude.{◌&&◌, ℕ, ◌+◌, Bool, List, length, map, filter, min, nat_eq, nat_le, nat_lt}
 use Rattle.std.specs.List.{enumerate_from, flat_map}
 use Rattle.std.specs.Cmp.Lexicographic.{pointwise}
 use Rattle.profile_model.specs.declared.part_ask.PartAsk.{PartAsk}
@@ -28,10 +28,11 @@ is_of tenant numbered = pointwise nat_eq numbered.1.tenant tenant
 abbrev pub is_within : PartAsk → Row → Bool
 is_within ask row = nat_le ask.from_ms row.profile.time_ms && nat_le row.profile.time_ms ask.until_ms
 
--- what the ask finds in pushes number `from` to `until` - 1 of an object's
+-- What the ask finds in pushes number `from` to `until` - 1 of an object's. Where the object ends before `until`, the part
+-- ends there.
 abbrev pub part_of : ℕ → List Push → ℕ → ℕ → PartAsk → PartView
 part_of lo pushes from until ask = record {
   from = from;
-  until = until;
+  until = min until (lo + length pushes);
   rows = filter (is_within ask) (flat_map rows_of_push (filter (is_of ask.tenant) (pushes_between lo pushes from until)));
 }

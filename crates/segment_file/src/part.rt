@@ -1,5 +1,5 @@
 // A tenant's profiles in a stretch of pushes.
-ghost use Rattle.std.specs.Prelude.{◌≡◌, ◌++◌, IfOk, OnOk, filter};
+ghost use Rattle.std.specs.Prelude.{◌≡◌, ◌+◌, ◌≤◌, ◌++◌, IfOk, OnOk, filter, length};
 ghost use Rattle.segment_file.specs.Parts.{is_within, part_of, rows_of_push};
 
 use crate::Object;
@@ -32,8 +32,8 @@ impl Model for Part {
 }
 
 impl Object {
-    /// What an ask finds in those of its pushes that have a number from `from` to `until` - 1. No profile is copied:
-    /// memory is taken for the rows alone.
+    /// What an ask finds in those of its pushes that have a number from `from` to `until` - 1. The part ends where the
+    /// object does, if that is before `until`. No profile is copied: memory is taken for the rows alone.
     pub fn into_part(
         self,
         alloc: Global,
@@ -41,9 +41,13 @@ impl Object {
         until: u64,
         ask: &PartAsk,
     ) -> Result<Part, AllocError>
+        requires begin { self.lo ≤ from }
+        requires held { from ≤ self.lo + length self.pushes }
+        requires order { from ≤ until }
         ensures { IfOk result (λ part. part ≡ part_of self.lo self.pushes from until ask.now) }
     {
         let mut rows = Vec::new(alloc);
+        let end = until.min(self.hi());
         let (mut number, pushes) = self.into_pushes();
         for push in pushes {
             if from <= number && number < until && push.tenant == ask.tenant {
@@ -51,7 +55,11 @@ impl Object {
             }
             number += 1;
         }
-        Ok(Part { from, until, rows })
+        Ok(Part {
+            from,
+            until: end,
+            rows,
+        })
     }
 }
 

@@ -212,6 +212,16 @@ fn are_rows(rows: &[Row], expected: &[(u64, u64, u64)]) -> bool {
         .eq(expected.iter().copied())
 }
 
+// What an ask finds, where the object has the number `from` or ends there.
+fn part(alloc: Global, from: u64, until: u64, ask: &PartAsk) -> Result<Option<Part>, Fail> {
+    match object(5, pushes(alloc)?) {
+        Some(object) if object.lo() <= from && from <= object.hi() && from <= until => {
+            Ok(Some(object.into_part(alloc, from, until, ask)?))
+        }
+        _ => Ok(None),
+    }
+}
+
 // Whether an ask finds these rows, each by its push, its place and its time.
 fn finds(
     alloc: Global,
@@ -220,11 +230,17 @@ fn finds(
     ask: &PartAsk,
     expected: &[(u64, u64, u64)],
 ) -> Result<bool, Fail> {
-    match object(5, pushes(alloc)?) {
-        Some(object) => {
-            let part = object.into_part(alloc, from, until, ask)?;
+    match part(alloc, from, until, ask)? {
+        Some(part) => {
             Ok(part.from == from && part.until == until && are_rows(&part.rows, expected))
         }
+        None => Ok(false),
+    }
+}
+
+fn ends_at(alloc: Global, from: u64, until: u64, ask: &PartAsk, end: u64) -> Result<bool, Fail> {
+    match part(alloc, from, until, ask)? {
+        Some(part) => Ok(part.from == from && part.until == end),
         None => Ok(false),
     }
 }
@@ -235,8 +251,8 @@ const FOUND: [(u64, u64, &[u8], u64, u64, &[(u64, u64, u64)]); 7] = [
     (5, 10, b"a", 9, 9, &[(5, 0, 9)]),
     (5, 10, b"b", 0, u64::MAX, &[(6, 0, 9)]),
     (8, 9, b"a", 0, u64::MAX, &[(8, 0, 6), (8, 1, 8)]),
-    (0, 5, b"a", 0, u64::MAX, &[]),
-    (9, u64::MAX, b"a", 0, u64::MAX, &[(9, 0, 10), (9, 1, 5)]),
+    (5, 5, b"a", 0, u64::MAX, &[]),
+    (9, 10, b"a", 0, u64::MAX, &[(9, 0, 10), (9, 1, 5)]),
     (5, 10, b"A", 0, u64::MAX, &[]),
 ];
 
@@ -246,6 +262,16 @@ fn an_ask_finds_rows_by_number_tenant_and_window(rt: HostRuntime) -> Result<(), 
     for (from, until, tenant, from_ms, until_ms, expected) in FOUND {
         let ask = ask(alloc, tenant, from_ms, until_ms)?;
         assert!(rt; finds(alloc, from, until, &ask, expected)?, "from {from}");
+    }
+    Ok(())
+}
+
+#[test]
+fn a_part_ends_where_its_object_does(rt: HostRuntime) -> Result<(), Fail> {
+    let alloc = rt.alloc();
+    let ask = ask(alloc, b"a", 0, u64::MAX)?;
+    for (from, until, end) in [(9, u64::MAX, 10), (5, 11, 10), (10, 12, 10), (5, 9, 9)] {
+        assert!(rt; ends_at(alloc, from, until, &ask, end)?, "from {from}");
     }
     Ok(())
 }

@@ -1,6 +1,6 @@
 -- What the file of an object says, and its fields, in order. Each rule stands at the field where it can be judged: a
 -- rule on several fields at the last of them.
-use Rattle.std.specs.Prelude.{◌≡◌, ◌&&◌, ℕ, ◌+◌, ◌-◌, ◌^◌, Bool, true, not, List, [], ◌∷◌, ◌++◌, length, codes, nat_lt, nat_le, nat_eq, None}
+use Rattle.std.specs.Prelude.{◌≡◌, ◌&&◌, ℕ, ◌+◌, ◌-◌, Bool, true, not, List, [], ◌∷◌, ◌++◌, length, codes, nat_lt, nat_le, nat_eq, None}
 use Rattle.std.specs.List.{list_all}
 use Rattle.std.specs.Option.{is_none}
 use Rattle.std.specs.Ordering.{is_lt}
@@ -8,6 +8,7 @@ use Rattle.std.specs.Cmp.Lexicographic.{pointwise}
 use Rattle.profile_model.specs.TenantPlaces.{wrong_place}
 use Rattle.profile_model.specs.Kinds.{is_colon}
 use Rattle.profile_model.specs.LabelSets.{Label, is_label_name}
+use Rattle.profile_model.specs.Limits.{most_frame_bytes, most_frames, most_profile_labels, most_profiles, most_value_bytes, total_bound}
 use Rattle.profile_model.specs.Stacks.{name_cmp, stack_cmp}
 use Rattle.profile_model.specs.Sums.{Sample, total_of}
 use Rattle.segment_file.specs.declared.fault.ObjectRule.TheVariants.{Content, Form}
@@ -42,7 +43,7 @@ pub record File : Type 0 where
 abbrev pub label_fields : List Label → Label → List Field
 label_fields before label =
     text_of label.0 (is_label_name label.0 && list_all (λ other. is_lt (name_cmp other.0 label.0)) before)
-    ∷ text_of label.1 (nat_lt 0 (length label.1) && nat_le (length label.1) 2048)
+    ∷ text_of label.1 (nat_lt 0 (length label.1) && nat_le (length label.1) most_value_bytes)
     ∷ []
 
 -- a part of a type
@@ -50,7 +51,7 @@ abbrev pub part_field : List ℕ → Field
 part_field part = text_of part (list_all (λ b. not (is_colon b)) part)
 
 abbrev pub is_frame : List ℕ → Bool
-is_frame frame = nat_lt 0 (length frame) && nat_le (length frame) 65535
+is_frame frame = nat_lt 0 (length frame) && nat_le (length frame) most_frame_bytes
 
 -- the frames of a stack, the last of which shows whether the stack is in its order
 abbrev pub frame_fields : Bool → List (List ℕ) → List Field
@@ -58,22 +59,22 @@ frame_fields ordered [] = []
 frame_fields ordered (frame ∷ []) = text_of frame (is_frame frame && ordered) ∷ []
 frame_fields ordered (frame ∷ next ∷ deeper) = text_of frame (is_frame frame) ∷ frame_fields ordered (next ∷ deeper)
 
--- 1 to 1,024 frames, in all a stack above those before it
+-- at least one frame and not too many, in all a stack above those before it
 abbrev pub stack_fields : List Sample → List (List ℕ) → List Field
 stack_fields before stack =
-    number 4 (length stack) (unless (nat_lt 0 (length stack) && nat_le (length stack) 1024) Content)
+    number 4 (length stack) (unless (nat_lt 0 (length stack) && nat_le (length stack) most_frames) Content)
     ∷ frame_fields (list_all (λ other. is_lt (stack_cmp other.0 stack)) before) stack
 
--- at least 1, and below 2^63 with all values before it
+-- at least 1, and below the bound with all values before it
 abbrev pub value_field : List Sample → ℕ → Field
-value_field before value = number 8 value (unless (nat_lt 0 value && nat_lt (total_of before + value) (2 ^ 63)) Content)
+value_field before value = number 8 value (unless (nat_lt 0 value && nat_lt (total_of before + value) total_bound) Content)
 
 abbrev pub sample_fields : List Sample → Sample → List Field
 sample_fields before sample = stack_fields before sample.0 ++ value_field before sample.1 ∷ []
 
--- at most 31 labels
+-- not too many labels
 abbrev pub labels_fields : List Label → List Field
-labels_fields labels = listed (nat_le (length labels) 31) label_fields labels
+labels_fields labels = listed (nat_le (length labels) most_profile_labels) label_fields labels
 
 abbrev pub profile_fields : FileProfile → List Field
 profile_fields profile =
@@ -86,7 +87,7 @@ profile_fields profile =
 abbrev pub push_fields : FilePush → List Field
 push_fields push =
     text_of push.tenant (is_none (wrong_place push.tenant))
-    ∷ listed (nat_le (length push.profiles) 4096) (λ before profile. profile_fields profile) push.profiles
+    ∷ listed (nat_le (length push.profiles) most_profiles) (λ before profile. profile_fields profile) push.profiles
 
 abbrev pub mark_of_objects : List ℕ
 mark_of_objects = codes "PYO0"

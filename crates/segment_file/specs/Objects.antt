@@ -4,6 +4,7 @@ use Rattle.std.specs.List.{All}
 use Rattle.std.specs.Map.{keys_of, values_of}
 use Rattle.std.specs.Str.{IsUtf8}
 use Rattle.profile_model.specs.LabelSets.{AreLabels, AreProfileLabels}
+use Rattle.profile_model.specs.Limits.{most_profiles}
 use Rattle.profile_model.specs.ReadKinds.{parts_in}
 use Rattle.profile_model.specs.Stacks.{IsStack}
 use Rattle.profile_model.specs.Sums.{AreSums}
@@ -65,7 +66,7 @@ pub record IsProfile (profile : Profile) : Type 0 where
 
 pub record IsPush (push : Push) : Type 0 where
   pub tenant : wrong_place push.tenant ≡ None
-  pub few : length push.profiles ≤ 4096
+  pub few : length push.profiles ≤ most_profiles
   pub each : All IsProfile push.profiles
 
 -- At least one push, each by the rules of its types. The file has room for each number and each text.

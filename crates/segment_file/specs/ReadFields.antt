@@ -7,6 +7,7 @@ use Rattle.faults.specs.Answers.{IfFault}
 use Rattle.faults.specs.declared.refused.Refused.{Refused}
 use Rattle.profile_model.specs.Kinds.{is_colon}
 use Rattle.profile_model.specs.LabelSets.{Label, is_label_name}
+use Rattle.profile_model.specs.Limits.{most_frames, most_profile_labels, most_profiles, most_value_bytes}
 use Rattle.profile_model.specs.Stacks.{name_cmp, stack_cmp}
 use Rattle.profile_model.specs.Sums.{Sample}
 use Rattle.profile_model.specs.TenantPlaces.{wrong_place}
@@ -55,7 +56,7 @@ IsNextRead {A} {B} fields before after old new result =
 -- ---- labels
 
 abbrev pub few_labels : ℕ → Bool
-few_labels n = nat_le n 31
+few_labels n = nat_le n most_profile_labels
 
 -- the name is above those of the labels before it
 abbrev pub is_above_labels : List Label → List ℕ → Bool
@@ -65,12 +66,12 @@ abbrev pub is_next_name : List Label → List ℕ → Bool
 is_next_name before name = is_label_name name && is_above_labels before name
 
 abbrev pub is_label_value : List ℕ → Bool
-is_label_value value = nat_lt 0 (length value) && nat_le (length value) 2048
+is_label_value value = nat_lt 0 (length value) && nat_le (length value) most_value_bytes
 
 -- ---- stacks and values
 
 abbrev pub few_frames : ℕ → Bool
-few_frames n = nat_lt 0 n && nat_le n 1024
+few_frames n = nat_lt 0 n && nat_le n most_frames
 
 -- the stack is above those before it
 abbrev pub is_above_stacks : List Sample → List (List ℕ) → Bool
@@ -120,7 +121,7 @@ abbrev pub is_tenant : List ℕ → Bool
 is_tenant tenant = is_none (wrong_place tenant)
 
 abbrev pub few_profiles : ℕ → Bool
-few_profiles n = nat_le n 4096
+few_profiles n = nat_le n most_profiles
 
 abbrev pub each_profile : List FileProfile → FileProfile → List Field
 each_profile before profile = profile_fields profile

@@ -17,13 +17,11 @@ mod reader_labels;
 mod reader_profiles;
 mod reader_pushes;
 mod reader_samples;
+mod rules;
 #[cfg(test)]
 mod tests;
 #[cfg(test)]
 mod tests_decode;
-mod rules;
-#[cfg(test)]
-mod tests;
 mod texts;
 
 pub use decoding::decode;

@@ -10,11 +10,11 @@ use crate::ObjectFault;
 use crate::reader::Reader;
 use crate::texts::content;
 use faults::Refused;
-use profile_model::{LabelSet, MAX_NAME_BYTES, MAX_VALUE_BYTES, Name};
+use profile_model::{LabelSet, MAX_LABELS, MAX_NAME_BYTES, MAX_VALUE_BYTES, Name};
 use std::alloc::Global;
 
 /// The most labels of a profile: those of a request, and the name of its service.
-const MAX_PROFILE_LABELS: u32 = 31;
+const MAX_PROFILE_LABELS: usize = MAX_LABELS + 1;
 
 impl<'b> Reader<'b> {
     pub(crate) fn labels(&mut self, alloc: Global) -> Result<LabelSet, Refused<ObjectFault>>
@@ -29,7 +29,7 @@ impl<'b> Reader<'b> {
     {
         let at = self.cursor.at();
         let count = self.cursor.four()?;
-        if count > MAX_PROFILE_LABELS {
+        if count as usize > MAX_PROFILE_LABELS {
             return Err(content(at));
         }
         Ok(count)

@@ -1,8 +1,9 @@
 // The samples of a profile, as a file has them.
-ghost use Rattle.std.specs.Prelude.{◌≡◌, ◌<◌, ◌+◌, ◌^◌, ◌&&◌, ℕ, List, nat_lt, [], ◌∷◌, ◌++◌, length, true, IfOk, MatchResult};
+ghost use Rattle.std.specs.Prelude.{◌≡◌, ◌<◌, ◌≤◌, ◌+◌, ◌&&◌, ℕ, List, nat_lt, [], ◌∷◌, ◌++◌, length, true, IfOk, MatchResult};
 ghost use Rattle.std.specs.List.{All};
 ghost use Rattle.std.specs.Ordering.{is_lt};
 ghost use Rattle.faults.specs.Answers.{IfFault};
+ghost use Rattle.profile_model.specs.Limits.{most_frames, total_bound};
 ghost use Rattle.profile_model.specs.Stacks.{IsFrame, IsStack, stack_cmp};
 ghost use Rattle.profile_model.specs.Sums.{total_of};
 ghost use Rattle.segment_file.specs.Files.{is_frame, sample_fields, stack_fields, value_field};
@@ -75,7 +76,7 @@ impl<'b> Reader<'b> {
 
     fn frames_count(&mut self) -> Result<u32, Refused<ObjectFault>>
         ensures read { IsFieldRead (count_field few_frames) self.old.cursor self.new.cursor result }
-        ensures few { IfOk result (λ count. (0 < count) × (count < 1025)) }
+        ensures few { IfOk result (λ count. (0 < count) × (count ≤ most_frames)) }
     {
         let at = self.cursor.at();
         let count = self.cursor.four()?;
@@ -112,7 +113,7 @@ impl<'b> Reader<'b> {
         sums: &StackSums,
         mut frames: Vec<Name>,
     ) -> Result<Stack, Refused<ObjectFault>>
-        requires few { length frames.items < 1024 }
+        requires few { length frames.items < most_frames }
         requires each { All IsFrame frames.items }
         ensures read { MatchResult result
             (λ stack. (frame : List ℕ) × (stack ≡ frames.items ++ frame ∷ []) × Took (alone (judged (is_last_frame sums.now frames.items)) frame) self.old.cursor self.new.cursor)
@@ -170,9 +171,9 @@ fn is_frame(frame: &[u8]) -> bool
     0 < frame.len() && frame.len() <= MAX_FRAME_BYTES
 }
 
-// Whether the value is at least 1, and below 2^63 with all these.
+// Whether the value is at least 1, and below the bound with all these.
 fn is_next_value(sums: &StackSums, value: u64) -> bool
-    ensures { result ≡ (nat_lt 0 value && nat_lt (total_of sums.now + value) (2 ^ 63)) }
+    ensures { result ≡ (nat_lt 0 value && nat_lt (total_of sums.now + value) total_bound) }
 {
     0 < value && value <= MAX_TOTAL - sums.total()
 }

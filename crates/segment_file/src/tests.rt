@@ -5,6 +5,7 @@ ghost use Rattle.profile_model.specs.LabelSets.{AreProfileLabels};
 ghost use Rattle.segment_file.specs.Laws.{IsLight};
 
 use super::*;
+use faults::Refused;
 use profile_model::{
     LabelSet, MAX_PROFILES, MAX_WEIGHT, Name, PartAsk, Profile, ProfileType, Profiles, Push, Stack,
     StackSums, Tenant,
@@ -274,4 +275,44 @@ fn a_part_ends_where_its_object_does(rt: HostRuntime) -> Result<(), Fail> {
         assert!(rt; ends_at(alloc, from, until, &ask, end)?, "from {from}");
     }
     Ok(())
+}
+
+fn is_cut_short(alloc: Global, bytes: &[u8]) -> bool {
+    match decode(alloc, bytes) {
+        Err(Refused::Fault(fault)) => fault.rule == ObjectRule::Form && fault.at == bytes.len(),
+        Err(Refused::Memory) => false,
+        Ok(_object) => false,
+    }
+}
+
+// Bytes that end behind a great number: of pushes, of a tenant's bytes, of profiles, of samples.
+const CUT_SHORT: [&[u8]; 4] = [
+    b"PYO0\
+    \0\0\0\0\0\0\0\0\
+    \x7F\xFF\xFF\xFF\xFF\xFF\xFF\xFF",
+    b"PYO0\
+    \0\0\0\0\0\0\0\0\
+    \0\0\0\0\0\0\0\x01\
+    \xFF\xFF\xFF\xFFt1",
+    b"PYO0\
+    \0\0\0\0\0\0\0\0\
+    \0\0\0\0\0\0\0\x01\
+    \0\0\0\x02t1\
+    \0\0\x10\0",
+    b"PYO0\
+    \0\0\0\0\0\0\0\0\
+    \0\0\0\0\0\0\0\x01\
+    \0\0\0\x02t1\
+    \0\0\0\x01\
+    \0\0\0\0\
+    \0\0\0\0\0\0\0\0\0\0\0\0\0\0\0\0\0\0\0\0\
+    \0\0\0\0\0\0\0\0\
+    \xFF\xFF\xFF\xFF",
+];
+
+#[test]
+fn no_number_that_is_read_is_trusted(rt: HostRuntime) {
+    for bytes in CUT_SHORT {
+        assert!(rt; is_cut_short(rt.alloc(), bytes), "{} bytes", bytes.len());
+    }
 }

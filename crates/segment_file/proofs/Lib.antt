@@ -21,3 +21,4 @@ pub mod ReadProfiles
 pub mod ReadFiles
 pub mod ReadKept
 pub mod ReadDecoded
+pub mod MadeLemmas

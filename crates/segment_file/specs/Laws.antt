@@ -22,6 +22,11 @@ OneObject = (bytes : List ℕ) (object other : ObjectView) → Spells bytes obje
 abbrev pub ObjectsAreSound : Type 0
 ObjectsAreSound = (lo : ℕ) (pushes : List Push) → IsObject lo pushes → AreSound (file_fields (file_of lo pushes))
 
+-- a file that breaks no rule is an object's
+abbrev pub SoundFilesAreObjects : Type 0
+SoundFilesAreObjects =
+    (file : File) → IsFile file → AreSound (file_fields file) → (object : ObjectView) × (file ≡ file_of object.lo object.pushes) × IsObject object.lo object.pushes
+
 -- bytes of a file that breaks no rule have no fault
 abbrev pub NoSoundFileIsBroken : Type 0
 NoSoundFileIsBroken =

@@ -1,5 +1,5 @@
 //! What holds of the bytes of all objects.
-ghost use Rattle.segment_file.specs.Laws.{LightPushesHaveRoom, NoObjectIsBroken, NoSoundFileIsBroken, ObjectsAreSound, OneFault, OneFile, OneObject};
+ghost use Rattle.segment_file.specs.Laws.{LightPushesHaveRoom, NoObjectIsBroken, NoSoundFileIsBroken, ObjectsAreSound, OneFault, OneFile, OneObject, SoundFilesAreObjects};
 
 /// Bytes spell one object, and what spells an object has no fault. It does nothing: its clauses are the law.
 pub fn objects_have_one_spelling()
@@ -7,6 +7,12 @@ pub fn objects_have_one_spelling()
     ensures object { OneObject }
     ensures sound { ObjectsAreSound }
     ensures unbroken { NoObjectIsBroken }
+{}
+
+/// A whole file that breaks no rule is an object's: so it is decoded, as memory allows. It does nothing: its clause is the
+/// law.
+pub fn each_file_decodes()
+    ensures { SoundFilesAreObjects }
 {}
 
 /// Bytes have one first fault, or none where they are a whole file that breaks no rule. It does nothing: its clauses

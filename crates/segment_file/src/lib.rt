@@ -26,6 +26,8 @@ mod texts;
 
 pub use decoding::decode;
 pub use fault::{ObjectFault, ObjectRule};
-pub use laws::{bytes_have_one_fault, light_pushes_have_room, objects_have_one_spelling};
+pub use laws::{
+    bytes_have_one_fault, each_file_decodes, light_pushes_have_room, objects_have_one_spelling,
+};
 pub use object::Object;
 pub use part::{Part, Row};

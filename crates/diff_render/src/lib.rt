@@ -6,3 +6,6 @@ mod doubles;
 mod joined;
 
 pub use doubles::{DoubleFlame, double};
+
+#[cfg(test)]
+mod tests;

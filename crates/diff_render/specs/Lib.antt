@@ -1,3 +1,4 @@
 pub mod Doubles
 pub mod Order
 pub mod Joining
+pub mod Laws

@@ -4,8 +4,10 @@
 mod both;
 mod doubles;
 mod joined;
+mod laws;
 
 pub use doubles::{DoubleFlame, double};
+pub use laws::equal_sides_show_equal_numbers;
 
 #[cfg(test)]
 mod tests;

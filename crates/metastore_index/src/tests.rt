@@ -42,6 +42,35 @@ fn a_record_has_the_highest_byte_first(rt: HostRuntime) {
     assert_eq!(rt; Entry::read(&body), Some(entry(0, 1, 1, 0)));
 }
 
+// The slot of docs/FORMATS.md for its object of 30 bytes: a first byte, and the body.
+const SLOT: &str = "01\
+    000000000000000000000000000000010000000000000001000000000000001e\
+    ffffffffffffffff0000000000000000000000000000000000000000000000";
+
+fn body_of_slot() -> Result<[u8; 63], Fail> {
+    let mut body = [0; 63];
+    for (i, byte) in body.iter_mut().enumerate() {
+        let digits = SLOT.get(2 * i + 2..2 * i + 4).unwrap_or("");
+        *byte = u8::from_str_radix(digits, 16)?;
+    }
+    Ok(body)
+}
+
+#[test]
+fn the_record_of_one_empty_push_is_the_documents(rt: HostRuntime) -> Result<(), Fail> {
+    let record = Entry {
+        lo: 0,
+        hi: 1,
+        id: 1,
+        length: 30,
+        tmin: u64::MAX,
+        tmax: 0,
+        level: 0,
+    };
+    assert!(rt; record.body() == body_of_slot()?);
+    Ok(())
+}
+
 #[test]
 fn a_record_of_no_entry_is_refused(rt: HostRuntime) {
     // The end isn't above the start, the level is 4, the last byte isn't 0.

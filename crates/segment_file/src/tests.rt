@@ -165,9 +165,27 @@ const TWO: &[u8; 213] = b"PYO0\
     \0\0\0\x02\0\0\0\x04main\0\0\0\x04leaf\
     \0\0\0\0\0\0\x01\x02";
 
+// The object of docs/FORMATS.md.
+const TEXT: &str = "50594f30\
+    0000000000000000\
+    0000000000000001\
+    00000002\
+    7431\
+    00000000";
+
+fn bytes_of_text() -> Result<[u8; 30], Fail> {
+    let mut bytes = [0; 30];
+    for (i, byte) in bytes.iter_mut().enumerate() {
+        let digits = TEXT.get(2 * i..2 * i + 2).unwrap_or("");
+        *byte = u8::from_str_radix(digits, 16)?;
+    }
+    Ok(bytes)
+}
+
 #[test]
 fn an_object_is_spelled_field_by_field(rt: HostRuntime) -> Result<(), Fail> {
     let alloc = rt.alloc();
+    assert!(rt; bytes_of_text()? == *EMPTY);
     assert!(rt; is_encoded(alloc, 0, empty(alloc)?, EMPTY)?);
     assert!(rt; is_encoded(alloc, 5, two(alloc)?, TWO)?);
     Ok(())

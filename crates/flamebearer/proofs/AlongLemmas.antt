@@ -130,7 +130,7 @@ own-fresh stack value from count long = ap (λ n. sum_by (λ (node : Node). node
         let none = own-more stack from value (omega arith) (λ same. absurd (omega arith)) in
         let later = by stack value (from + 1) count (omega arith) in omega arith
 
-sum-push : (c : ℕ) (stack : List (List ℕ)) (value : ℕ) (old new : List Node)
+pub sum-push : (c : ℕ) (stack : List (List ℕ)) (value : ℕ) (old new : List Node)
     → new ≡ map (grown c stack value) old ++ map (fresh stack value) (fronts stack c (length stack - c)) → c < length stack
     → sum_by (λ node. node.own) new ≡ sum_by (λ node. node.own) old + value
 sum-push c stack value old new is short =
@@ -145,7 +145,7 @@ sum-push c stack value old new is short =
     rest = ap (λ n. sum_by (λ (n : Node). n.own) (map (fresh stack value) (fronts stack c n))) (back c (length stack) short)
         ∙ own-fresh stack value c (length stack - c - 1) (omega arith)
 
-total-last : (done : List Sample) (stack : List (List ℕ)) (value : ℕ) → total_of (done ++ (stack, value) ∷ []) ≡ total_of done + value
+pub total-last : (done : List Sample) (stack : List (List ℕ)) (value : ℕ) → total_of (done ++ (stack, value) ∷ []) ≡ total_of done + value
 total-last done stack value =
     let whole = total-whole done ((stack, value) ∷ []) in
     let one = sum_by-cons (λ (v : ℕ). v) value [] in omega arith

@@ -88,12 +88,12 @@ end-near ends values Root spans within at early near = spans.within at near
 end-near ends values (At p) spans within at early near = spans.nested p at (omega arith) (omega arith) near
 end-near ends values Others spans within at early near = absurd (omega arith)
 
-own-le : (values : List Value) (n m : ℕ) → n ≤ m → own_before values n ≤ own_before values m
+pub own-le : (values : List Value) (n m : ℕ) → n ≤ m → own_before values n ≤ own_before values m
 own-le values n m le =
     let part = sum_by-take-le (λ (v : Value). v.own) (take m values) n in
     let same = ap (sum_by (λ (v : Value). v.own)) (take-take n m values le) in omega arith
 
-own-more : (values : List Value) (n : ℕ) (d : Value) → n < length values → own_before values (n + 1) ≡ own_before values n + (get_or values n d).own
+pub own-more : (values : List Value) (n : ℕ) (d : Value) → n < length values → own_before values (n + 1) ≡ own_before values n + (get_or values n d).own
 own-more values n d within = ap (sum_by (λ (v : Value). v.own)) (take_more values n d within) ∙ sum_by_push (λ (v : Value). v.own) (take n values) (get_or values n d)
 
 pub along-none : (ends : List ℕ) (values : List Value) (kept : List Bool) (spot : Spot) (old : List Spot) → AreSpanned ends values → IsSpot ends values 0 spot
@@ -128,7 +128,7 @@ along-none ends values kept spot old spans is =
 
 -- ---- one child more
 
-next-children : (stacks : List (List (List ℕ))) (ends : List ℕ) (front : List (List ℕ)) (first end at : ℕ) → IsUnder stacks ends front first end → length stacks ≡ length ends
+pub next-children : (stacks : List (List (List ℕ))) (ends : List ℕ) (front : List (List ℕ)) (first end at : ℕ) → IsUnder stacks ends front first end → length stacks ≡ length ends
     → first ≤ at → at < end → length (get_or stacks at []) ≡ length front + 1
     → children stacks front first (get_or ends at 0 - first) ≡ children stacks front first (at - first) ++ at ∷ []
 next-children stacks ends front first end at under many early near child =
@@ -145,7 +145,7 @@ next-children stacks ends front first end at under many early near child =
     let there = get_or-map (length {A = List ℕ}) stacks n [] 0 (omega arith) in
     and_left _ (begins_with front (get_or stacks n [])) (ne_eqb (length (get_or stacks n [])) (length front + 1) (λ same. absurd (omega arith))))
 
-next-child : (stacks : List (List (List ℕ))) (ends : List ℕ) (front : List (List ℕ)) (first end at : ℕ) → IsUnder stacks ends front first end → length stacks ≡ length ends
+pub next-child : (stacks : List (List (List ℕ))) (ends : List ℕ) (front : List (List ℕ)) (first end at : ℕ) → IsUnder stacks ends front first end → length stacks ≡ length ends
     → first ≤ at → at < end → length (get_or stacks at []) ≡ length front + 1 → get_or ends at 0 < end → length (get_or stacks (get_or ends at 0) []) ≡ length front + 1
 next-child stacks ends front first end at under many early near child more =
     let all = length-map stacks (length {A = List ℕ}) in

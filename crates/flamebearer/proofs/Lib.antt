@@ -17,3 +17,4 @@ pub mod NumberLemmas
 pub mod GatherLemmas
 pub mod RowLemmas
 pub mod PictureLemmas
+pub mod LawLemmas

@@ -39,7 +39,7 @@ pub all-range : (count from more : ℕ) → from + more ≤ count → AllByRecur
 all-range count from zero within = tt
 all-range count from (suc more) within = (omega arith, all-range count (from + 1) more (omega arith))
 
-all-filter : {X : Type 0} (P : X → Type 0) (p : X → Bool) (xs : List X) → AllByRecursion P xs → AllByRecursion P (filter p xs)
+pub all-filter : {X : Type 0} (P : X → Type 0) (p : X → Bool) (xs : List X) → AllByRecursion P xs → AllByRecursion P (filter p xs)
 all-filter P p [] all = tt
 all-filter {X} P p (x ∷ xs) all = by (p x) (all-filter P p xs all.1)
   where

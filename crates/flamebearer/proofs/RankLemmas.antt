@@ -124,7 +124,7 @@ front-count p (x ∷ xs) (suc i) within first rest =
     ap (λ b. length (cond b (x ∷ filter p xs) (filter p xs))) (first 0 (omega arith))
     ∙ ap suc (front-count p xs i (omega arith) (λ j less. first (suc j) (omega arith)) (λ j far near. rest (suc j) (omega arith) (omega arith)))
 
-not-itself : (weight : ℕ → ℕ) (a : ℕ) → comes_before weight a a ≡ false
+pub not-itself : (weight : ℕ → ℕ) (a : ℕ) → comes_before weight a a ≡ false
 not-itself weight a = or_from _ _ (le-ltb (weight a) (weight a) (omega arith)) (and_right (weight a == weight a) _ (le-ltb a a (omega arith)))
 
 one-way : (weight : ℕ → ℕ) (a b : ℕ) → comes_before weight a b ≡ true → comes_before weight b a ≡ false
@@ -260,7 +260,7 @@ flag-step place weight count ranked rank flags x are flagged less is =
 
 -- ---- where all are kept
 
-few-before : (p : ℕ → Bool) (count at : ℕ) → at < count → p at ≡ false → length (filter p (range_with_len 0 count)) < count
+pub few-before : (p : ℕ → Bool) (count at : ℕ) → at < count → p at ≡ false → length (filter p (range_with_len 0 count)) < count
 few-before p count at within itself =
     let split : filter p (range_with_len 0 count) ≡ filter p (range_with_len 0 at) ++ filter p (range_with_len (at + 1) (count - at - 1)) =
     ap (λ n. filter p (range_with_len 0 n)) (parts count at within)

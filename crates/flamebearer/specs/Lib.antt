@@ -10,3 +10,4 @@ pub mod Spots
 pub mod Ranks
 pub mod Names
 pub mod Rows
+pub mod Laws

@@ -4,6 +4,7 @@
 mod branches;
 mod drawing;
 mod kept;
+mod laws;
 mod levels;
 mod names;
 mod pictures;
@@ -12,6 +13,7 @@ mod tree;
 
 pub use branches::{Branches, Frame, Value};
 pub use drawing::{picture, single};
+pub use laws::what_flame_graphs_show;
 pub use pictures::{Flame, Picture};
 pub use tree::Tree;
 

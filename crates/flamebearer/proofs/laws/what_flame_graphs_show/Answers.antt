@@ -1,0 +1,8 @@
+use Rattle.flamebearer.proofs.LawLemmas.{all-shown, totals-made-up}
+use Rattle.flamebearer.proofs.laws.what_flame_graphs_show.Goals as goal
+
+pub returns-clause-children : goal.returns-clause-children
+returns-clause-children c = totals-made-up
+
+pub returns-clause-no_other : goal.returns-clause-no_other
+returns-clause-no_other c = all-shown

@@ -18,3 +18,4 @@ pub mod GatherLemmas
 pub mod RowLemmas
 pub mod PictureLemmas
 pub mod LawLemmas
+pub mod TreeLemmas

@@ -1,15 +1,15 @@
 -- What levels show, whichever nodes are kept.
-use Rattle.std.proofs.Common.{◌≡◌, ℕ, zero, suc, ◌+◌, ◌-◌, ◌<◌, ◌≤◌, List, [], ◌∷◌, ◌++◌, length, map, get_or, set, Bool, true, false, Option, Some, None, arith, refl, sym, ap, ◌∙◌, subst, ⊎_elim}
+use Rattle.std.proofs.Common.{◌≡◌, ℕ, zero, suc, ◌+◌, ◌-◌, ◌<◌, ◌≤◌, List, [], ◌∷◌, ◌++◌, length, map, get_or, set, Bool, true, Option, Some, None, arith, refl, sym, ap, ◌∙◌, subst, ⊎_elim}
 use Rattle.std.specs.Prelude.{codes, filter, is_some, not, replicate, sum_by}
 use Rattle.std.specs.List.{All, AllByRecursion, flat_map, range_with_len}
 use Rattle.std.proofs.lemmas.Bool.{cases_lt, lt-ltb}
-use Rattle.std.proofs.lemmas.List.{length-map, length-replicate, map-append, take_all}
+use Rattle.std.proofs.lemmas.List.{length-replicate}
 use Rattle.std.proofs.lemmas.List.Elements.{All-from_recursion}
 use Rattle.std.proofs.lemmas.List.Filters.{sum_by-filter_both}
 use Rattle.std.proofs.lemmas.List.Sums.{sum_by-append, sum_by-cons, sum_by_push}
 use Rattle.flamebearer.specs.declared.branches.Value.{Value}
 use Rattle.flamebearer.specs.Ends.{AreEnds, IsEnd}
-use Rattle.flamebearer.specs.Laws.{AllAreShown, AreOfSide, IsMadeUp, TotalsAreMadeUp}
+use Rattle.flamebearer.specs.Laws.{AllAreShown, IsMadeUp, TotalsAreMadeUp}
 use Rattle.flamebearer.specs.Pictures.{AreBelow, AreLevels, Shown, below, comes_before, is_child, is_kept, kept_nodes, left_nodes, nodes_at, others, root_of, shown_of, side_by_side}
 use Rattle.flamebearer.specs.Sides.{IsSide, nodes_with}
 use Rattle.flamebearer.specs.Spots.{AreFramed, AreSpanned, AreStacks, own_before}
@@ -114,7 +114,7 @@ ends-of depths (suc at) ends within are =
     one_more : (n : ℕ) → suc n ≡ n + 1
     one_more n = omega arith
 
-ends-are : (stacks : List (List (List ℕ))) → AreFramed stacks → (ends : List ℕ) × AreStacks stacks ends
+pub ends-are : (stacks : List (List (List ℕ))) → AreFramed stacks → (ends : List ℕ) × AreStacks stacks ends
 ends-are stacks framed =
     let depths = map (length {A = List ℕ}) stacks in
     let found = ends-of depths (length depths) (replicate (length depths) 0) (omega arith) (ends-none depths (replicate (length depths) 0) (length-replicate (length depths) 0)) in

@@ -19,3 +19,4 @@ pub mod RowLemmas
 pub mod PictureLemmas
 pub mod LawLemmas
 pub mod TreeLemmas
+pub mod OuterLemmas

@@ -64,7 +64,7 @@ weights stacks values side = record {
 }
 
 -- what all sides have at a place, as values and as nodes
-weight-same : (stacks : List (List (List ℕ))) (sides : List (List Value)) (at : ℕ) → All (IsSide stacks) sides → at < length stacks → weight_in sides at ≡ weight_at (map (nodes_with stacks) sides) at
+pub weight-same : (stacks : List (List (List ℕ))) (sides : List (List Value)) (at : ℕ) → All (IsSide stacks) sides → at < length stacks → weight_in sides at ≡ weight_at (map (nodes_with stacks) sides) at
 weight-same stacks [] at are within = refl
 weight-same stacks (s ∷ ss) at are within =
     let side = are 0 s (omega arith) in
@@ -84,7 +84,7 @@ filter-same p q from (suc count) same =
     λ i. cond (same from (omega arith) (omega arith) i) (from ∷ filter-same p q (from + 1) count (λ n far near. same n (omega arith) (omega arith)) i)
     (filter-same p q (from + 1) count (λ n far near. same n (omega arith) (omega arith)) i)
 
-kept-same : (w v : ℕ → ℕ) (count most at : ℕ) → ((n : ℕ) → n < count → w n ≡ v n) → at < count → is_kept w count most at ≡ is_kept v count most at
+pub kept-same : (w v : ℕ → ℕ) (count most at : ℕ) → ((n : ℕ) → n < count → w n ≡ v n) → at < count → is_kept w count most at ≡ is_kept v count most at
 kept-same w v count most at same within =
     ap (λ l. nat_lt (length l) most)
     (filter-same (λ other. comes_before w other at) (λ other. comes_before v other at) 0 count (λ n far near. λ i. before (same n (omega arith) i) (same at within i) n))

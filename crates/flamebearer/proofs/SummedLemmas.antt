@@ -1,18 +1,15 @@
 -- That a node's total is what all nodes beginning with its stack have of their own.
-use Rattle.std.proofs.Common.{◌≡◌, ℕ, zero, suc, ◌+◌, ◌-◌, ◌<◌, ◌≤◌, List, [], ◌∷◌, ◌++◌, length, map, take, Bool, true, false, cond, arith, refl, sym, ap, ◌∙◌, subst}
+use Rattle.std.proofs.Common.{◌≡◌, ℕ, zero, suc, ◌+◌, ◌-◌, ◌<◌, List, [], ◌∷◌, ◌++◌, length, map, take, Bool, true, false, cond, arith, refl, sym, ap, ◌∙◌, subst}
 use Rattle.std.specs.Prelude.{sum_by, filter, if◌then◌else◌}
-use Rattle.std.specs.List.{All, AllByRecursion}
-use Rattle.std.proofs.lemmas.List.{map-append}
-use Rattle.std.proofs.lemmas.List.Elements.{All-from_recursion, filter-append}
-use Rattle.std.proofs.lemmas.List.Sums.{sum_by-append, sum_by-cons}
+use Rattle.std.specs.List.{AllByRecursion}
+use Rattle.std.proofs.lemmas.List.Elements.{All-from_recursion}
+use Rattle.std.proofs.lemmas.List.Sums.{sum_by-cons}
 use Rattle.profile_model.specs.Sums.{Sample, total_of}
-use Rattle.profile_model.specs.StackOrder.{stack_eq}
 use Rattle.flamebearer.specs.Trees.{Node, begins_with, beginning_with, node_of, tree_of}
 use Rattle.flamebearer.specs.Sides.{AreSummed, own_below}
 use Rattle.flamebearer.specs.Pushes.{fresh, fronts, grown}
 use Rattle.flamebearer.proofs.FirstLemmas.{found_of}
 use Rattle.flamebearer.proofs.NodeLemmas.{own-last, own-more}
-use Rattle.flamebearer.proofs.PrefixLemmas.{one_more}
 
 plus : (n : ℕ) → n ≡ 0 + n
 plus n = omega arith

@@ -1,5 +1,5 @@
 -- Trees, sample after sample.
-use Rattle.std.proofs.Common.{◌≡◌, ℕ, zero, suc, ◌+◌, ◌-◌, ◌<◌, ◌≤◌, ◌||◌, List, [], ◌∷◌, ◌++◌, length, map, take, drop, get_or, Bool, true, false, arith, refl, sym, ap, ◌∙◌, subst, append_assoc, append-nil, ⊎_elim}
+use Rattle.std.proofs.Common.{◌≡◌, ℕ, zero, suc, ◌+◌, ◌-◌, ◌<◌, ◌≤◌, List, [], ◌∷◌, ◌++◌, length, map, take, get_or, Bool, true, false, arith, refl, sym, ap, ◌∙◌, subst, append_assoc, append-nil, ⊎_elim}
 use Rattle.std.specs.Prelude.{◌^◌, nat_eq, sum_by, if◌then◌else◌, ⊤}
 use Rattle.std.specs.List.{All, AllByRecursion, list_any}
 use Rattle.std.specs.List.Sorted.{IsStrictlySortedBy}
@@ -16,11 +16,11 @@ use Rattle.profile_model.specs.StackOrder.{stack_eq}
 use Rattle.profile_model.specs.Sums.{Sample, total_of, value_of}
 use Rattle.flamebearer.specs.declared.branches.Frame.{Frame}
 use Rattle.flamebearer.specs.declared.branches.Value.{Value}
-use Rattle.flamebearer.specs.Branches.{AreOrdered, depths_of, stack_with, stacks_after, stacks_of}
-use Rattle.flamebearer.specs.Laws.{AreOfSide, AreStackSums, RootsHaveAll, TreesAreSides}
+use Rattle.flamebearer.specs.Branches.{depths_of, stacks_after}
+use Rattle.flamebearer.specs.Laws.{AreStackSums, RootsHaveAll, TreesAreSides}
 use Rattle.flamebearer.specs.Parts.{PartAt}
 use Rattle.flamebearer.specs.Pushes.{fronts}
-use Rattle.flamebearer.specs.Sides.{AreSummed, IsSide, nodes_with, own_below}
+use Rattle.flamebearer.specs.Sides.{AreSummed, nodes_with, own_below}
 use Rattle.flamebearer.specs.Spots.{AreFramed}
 use Rattle.flamebearer.specs.Trees.{Node, begins_with, beginning_with, firsts, node_of, tree_of}
 use Rattle.flamebearer.proofs.AlongLemmas.{sum-push, total-last}
@@ -47,12 +47,15 @@ part-of (x ∷ xs) (y ∷ ys) = by (pointwise nat_eq x y) refl (part-of xs ys)
   where
     by : (b : Bool) → pointwise nat_eq x y ≡ b → ((c : ℕ) × PartAt xs ys c) → (c : ℕ) × PartAt (x ∷ xs) (y ∷ ys) c
     by true is later = (suc later.0, part-more x y xs ys later.0 ((bytes_decides x y).0 is) later.1)
-    by false is later = (0, record {
-      in_first = omega arith;
-      in_second = omega arith;
-      shared = refl;
-      apart = λ a b same. true≢false (sym ((bytes_decides x y).1 same) ∙ is);
-    })
+    by false is later = (
+      0,
+      record {
+        in_first = omega arith;
+        in_second = omega arith;
+        shared = refl;
+        apart = λ a b same. true≢false (sym ((bytes_decides x y).1 same) ∙ is);
+      },
+    )
 
 -- ---- frames
 
@@ -76,11 +79,12 @@ last-append before (x ∷ xs) ys = last-append x xs ys
 chain-fronts : (before stack : List (List ℕ)) (from count : ℕ) → from + count ≤ length stack → take from before ≡ take from stack → IsChain before (fronts stack from count)
 chain-fronts before stack from zero within front = tt
 chain-fronts before stack from (suc count) within front =
-    let long = length-take-le (from + 1) stack (omega arith) in
-    ((omega arith),
-    ap (λ n. take n before) (one_less (length (take (from + 1) stack)) long) ∙ front ∙ sym (take-take from (from + 1) stack (omega arith))
-    ∙ ap (λ n. take n (take (from + 1) stack)) (sym (one_less (length (take (from + 1) stack)) long)),
-    chain-fronts (take (from + 1) stack) stack (from + 1) count (omega arith) (take-take (from + 1) (from + 1) stack (omega arith)))
+    let long = length-take-le (from + 1) stack (omega arith) in (
+      (omega arith),
+      ap (λ n. take n before) (one_less (length (take (from + 1) stack)) long) ∙ front ∙ sym (take-take from (from + 1) stack (omega arith))
+          ∙ ap (λ n. take n (take (from + 1) stack)) (sym (one_less (length (take (from + 1) stack)) long)),
+      chain-fronts (take (from + 1) stack) stack (from + 1) count (omega arith) (take-take (from + 1) (from + 1) stack (omega arith)),
+    )
   where
     one_less : (n : ℕ) → n ≡ from + 1 → n - 1 ≡ from
     one_less n is = omega arith

@@ -1,14 +1,14 @@
 -- What flame graphs show.
-use Rattle.std.specs.Prelude.{◌≡◌, ◌≤◌, ℕ, ◌+◌, Bool, true, List, length, map, is_some, sum_by}
+use Rattle.std.specs.Prelude.{◌≡◌, ◌<◌, ◌≤◌, ℕ, ◌+◌, Bool, true, List, [], length, map, get_or, is_some, sum_by}
 use Rattle.std.specs.List.{All}
 use Rattle.std.specs.Map.{keys_of}
 use Rattle.profile_model.specs.Stacks.{IsStack}
 use Rattle.profile_model.specs.Sums.{Sample, AreSums, total_of}
 use Rattle.flamebearer.specs.declared.branches.Value.{Value}
-use Rattle.flamebearer.specs.Pictures.{AreLevels, Shown, below, is_kept, kept_nodes, left_nodes, root_of}
+use Rattle.flamebearer.specs.Pictures.{AreLevels, Shown, below, is_kept, kept_nodes, left_nodes, root_of, weight_at}
 use Rattle.flamebearer.specs.Sides.{IsSide, nodes_with}
 use Rattle.flamebearer.specs.Spots.{AreFramed}
-use Rattle.flamebearer.specs.Trees.{Node, tree_of}
+use Rattle.flamebearer.specs.Trees.{Node, begins_with, tree_of}
 
 -- sums of stacks
 pub record AreStackSums (samples : List Sample) : Type 0 where
@@ -45,3 +45,10 @@ TotalsAreMadeUp = (keeps : ℕ → Bool) (nodes : List Node) (levels : List (Lis
 abbrev pub AllAreShown : Type 0
 AllAreShown = (weight : ℕ → ℕ) (most : ℕ) (nodes : List Node) (levels : List (List Shown)) → length nodes ≤ most → AreLevels (is_kept weight (length nodes) most) nodes levels
     → All (All (λ shown. is_some shown.stack ≡ true)) levels
+
+-- where a node is kept, each node that its stack begins with is kept
+abbrev pub OuterNodesAreKept : Type 0
+OuterNodesAreKept = (stacks : List (List (List ℕ))) (sides : List (List Value)) (most outer inner : ℕ) → AreFramed stacks → All (IsSide stacks) sides
+    → outer < length stacks → inner < length stacks → begins_with (get_or stacks outer []) (get_or stacks inner []) ≡ true
+    → is_kept (weight_at (map (nodes_with stacks) sides)) (length stacks) most inner ≡ true
+    → is_kept (weight_at (map (nodes_with stacks) sides)) (length stacks) most outer ≡ true

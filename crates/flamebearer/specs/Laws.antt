@@ -36,7 +36,7 @@ abbrev pub IsMadeUp : (ℕ → Bool) → List Node → Shown → Type 0
 IsMadeUp keeps nodes shown =
     shown.own + sum_by (λ one. one.total) (below (kept_nodes keeps nodes) (left_nodes keeps nodes) shown) ≡ shown.total
 
--- whichever nodes are kept, so is each total that a level shows
+-- whichever nodes are kept, each total that a level shows is made up so
 abbrev pub TotalsAreMadeUp : Type 0
 TotalsAreMadeUp = (keeps : ℕ → Bool) (nodes : List Node) (levels : List (List Shown)) → AreOfSide nodes → AreLevels keeps nodes levels
     → All (All (IsMadeUp keeps nodes)) levels

@@ -1,5 +1,5 @@
 // The levels of one side.
-ghost use Rattle.std.specs.Prelude.{◌≡◌, ◌+◌, ◌<◌, ◌≤◌, ◌^◌, [], ◌∷◌, length, map, IfOk, OnOk};
+ghost use Rattle.std.specs.Prelude.{◌≡◌, ◌+◌, ◌<◌, ◌≤◌, ◌^◌, [], ◌∷◌, length, map, unwrap_or, IfOk, OnOk};
 ghost use Rattle.std.specs.List.{All};
 ghost use Rattle.flamebearer.specs.declared.levels.Stands.TheVariants.{Root};
 ghost use Rattle.flamebearer.specs.Pictures.{AreLevels};
@@ -129,7 +129,7 @@ fn push_below(
             })?;
             begin += total;
         } else {
-            left = Some(left.unwrap_or(0) + total);
+            left = Some(with_one_more(left, total));
         }
         at = ends[at];
     }
@@ -142,6 +142,14 @@ fn push_below(
         })?;
     }
     Ok(())
+}
+
+// What nodes that aren't kept come to, with one more.
+fn with_one_more(left: Option<u64>, total: u64) -> u64
+    requires { unwrap_or left 0 + total < 2 ^ 63 }
+    ensures { result ≡ unwrap_or left 0 + total }
+{
+    left.unwrap_or(0) + total
 }
 
 // The places where what stands below can be: the first, and their end.

@@ -1,4 +1,4 @@
-use Rattle.std.proofs.Common.{◌≡◌, ◌∙◌, arith, sym, ap}
+use Rattle.std.proofs.Common.{◌∙◌, arith, sym, ap}
 use Rattle.std.specs.Prelude.{sum_by}
 use Rattle.flamebearer.specs.Trees.{Node}
 use Rattle.flamebearer.proofs.SpanLemmas.{own-all}

@@ -43,10 +43,20 @@ fn ranked(
 {
     let mut ranked = Vec::with_capacity(alloc, count)?;
     for place in 0..count {
-        ranked.push((Reverse(weight_of(sides, place)), place))?;
+        ranked.push(rank_of(sides, place))?;
     }
     ranked.sort_unstable();
     Ok(ranked)
+}
+
+// By what places are put in order.
+fn rank_of(sides: &[&[Value]], place: usize) -> (Reverse<u64>, usize)
+    requires few { length sides.now ≤ 2 }
+    requires weights { All (λ side. (place < length side.now) × All (λ value. value.total < 2 ^ 63) side.now) sides.now }
+    ensures weight { result.0.0 ≡ weight_in (map (λ side. side.now) sides.now) place }
+    ensures place { result.1 ≡ place }
+{
+    (Reverse(weight_of(sides, place)), place)
 }
 
 // What all sides have at a place together.

@@ -12,9 +12,10 @@ use Rattle.flamebearer.proofs.kept.ranked.Goals as goal
 pub loop-place-preserved : goal.loop-place-preserved
 loop-place-preserved c = record {
   places = ap (map (λ one. one.1)) c.in_ok-push.ensures.items ∙ map_push (λ one. one.1) c.loop-place.ranked.items _
-      ∙ ap (λ l. l ++ c.loop-place.place ∷ []) c.loop-place.invariant.places ∙ sym (range-more c.loop-place.place);
+      ∙ (λ i. c.loop-place.invariant.places i ++ c.rank_of.ensures.place i ∷ []) ∙ sym (range-more c.loop-place.place);
   weights = subst (All (λ (one : Reverse ℕ × ℕ). one.0.0 ≡ weight_in (map (λ (side : Bor (List Value)). side.now) c.args.sides.now) one.1)) (sym c.in_ok-push.ensures.items)
-      (All-push (λ (one : Reverse ℕ × ℕ). one.0.0 ≡ weight_in (map (λ (side : Bor (List Value)). side.now) c.args.sides.now) one.1) c.loop-place.ranked.items _ c.loop-place.invariant.weights c.weight_of.ensures);
+      (All-push (λ (one : Reverse ℕ × ℕ). one.0.0 ≡ weight_in (map (λ (side : Bor (List Value)). side.now) c.args.sides.now) one.1) c.loop-place.ranked.items _ c.loop-place.invariant.weights
+      (subst (λ at. c.rank_of.result.0.0 ≡ weight_in (map (λ (side : Bor (List Value)). side.now) c.args.sides.now) at) (sym c.rank_of.ensures.place) c.rank_of.ensures.weight));
 }
 
 pub returns : goal.returns

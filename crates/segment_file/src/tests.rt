@@ -334,3 +334,52 @@ fn no_number_that_is_read_is_trusted(rt: HostRuntime) {
         assert!(rt; is_cut_short(rt.alloc(), bytes), "{} bytes", bytes.len());
     }
 }
+
+// As many profiles as a push may have, an empty push, and a push of another tenant.
+fn many(alloc: Global) -> Result<Vec<Push>, Fail> {
+    let mut items = Vec::new(alloc);
+    for time in 0..MAX_PROFILES as u64 {
+        items.push(profile(alloc, "web", time, &["main"], 1)?)?;
+    }
+    let last = profile(alloc, "", 1, &["main", "leaf"], 2)?;
+    let mut pushes = Vec::new(alloc);
+    pushes.push(push(alloc, b"t1", items)?)?;
+    pushes.push(push(alloc, b"t1", Vec::new(alloc))?)?;
+    pushes.push(of_one(alloc, b"t2", last)?)?;
+    Ok(pushes)
+}
+
+fn encoded(alloc: Global, lo: u8, pushes: Vec<Push>) -> Result<Vec<u8>, Fail> {
+    match object(lo, pushes) {
+        Some(object) => Ok(object.encode(alloc)?),
+        None => Ok(Vec::new(alloc)),
+    }
+}
+
+fn counts(alloc: Global, bytes: &[u8]) -> Result<(u64, u64, usize, u128), Fail> {
+    let object = decode(alloc, bytes)?;
+    let total = object.pushes().iter().map(|push| push.total()).sum();
+    let profiles = object
+        .pushes()
+        .iter()
+        .map(|push| push.profiles.as_slice().len())
+        .sum();
+    Ok((object.lo(), object.hi(), profiles, total))
+}
+
+// What was read is spelled as what was written.
+fn is_spelled_again(alloc: Global, bytes: &[u8]) -> Result<bool, Fail> {
+    let object = decode(alloc, bytes)?;
+    Ok(object.encode(alloc)?.as_slice() == bytes)
+}
+
+#[test]
+fn an_object_of_several_tenants_and_4096_profiles_is_read_back(
+    rt: HostRuntime,
+) -> Result<(), Fail> {
+    let alloc = rt.alloc();
+    let bytes = encoded(alloc, 9, many(alloc)?)?;
+    assert_eq!(rt; counts(alloc, &bytes)?, (9, 12, MAX_PROFILES + 1, 4098));
+    assert!(rt; is_spelled_again(alloc, &bytes)?);
+    Ok(())
+}

@@ -125,3 +125,92 @@ fn a_wrong_byte_in_a_profile_is_a_fault_of_its_field(rt: HostRuntime) {
         assert!(rt; is_fault(alloc, &bytes, rule, at), "{byte} at {place}");
     }
 }
+
+// The places from one to another where FF is this fault: of each byte of the file.
+const FF_IN_ONE_PUSH: [(usize, usize, ObjectRule, usize); 6] = [
+    (0, 3, ObjectRule::Form, 0),
+    (4, 11, ObjectRule::Form, 12),
+    (12, 23, ObjectRule::Form, 30),
+    (24, 25, ObjectRule::Content, 20),
+    (26, 28, ObjectRule::Content, 26),
+    (29, 29, ObjectRule::Form, 30),
+];
+
+// The same of the larger file, but for the bytes of the time and of the values behind their first.
+const FF_IN_ONE_PROFILE: [(usize, usize, ObjectRule, usize); 33] = [
+    (0, 3, ObjectRule::Form, 0),
+    (4, 11, ObjectRule::Form, 12),
+    (12, 23, ObjectRule::Form, 129),
+    (24, 25, ObjectRule::Content, 20),
+    (26, 28, ObjectRule::Content, 26),
+    (29, 29, ObjectRule::Form, 129),
+    (30, 33, ObjectRule::Content, 30),
+    (34, 37, ObjectRule::Form, 129),
+    (38, 38, ObjectRule::Content, 34),
+    (39, 42, ObjectRule::Form, 129),
+    (43, 43, ObjectRule::Content, 39),
+    (44, 47, ObjectRule::Form, 129),
+    (48, 48, ObjectRule::Content, 44),
+    (49, 52, ObjectRule::Form, 129),
+    (53, 53, ObjectRule::Content, 49),
+    (54, 57, ObjectRule::Form, 129),
+    (58, 60, ObjectRule::Content, 54),
+    (61, 64, ObjectRule::Form, 129),
+    (65, 65, ObjectRule::Content, 61),
+    (66, 77, ObjectRule::Form, 129),
+    (86, 89, ObjectRule::Form, 129),
+    (90, 92, ObjectRule::Content, 90),
+    (93, 93, ObjectRule::Content, 99),
+    (94, 97, ObjectRule::Form, 129),
+    (98, 98, ObjectRule::Content, 94),
+    (99, 99, ObjectRule::Content, 99),
+    (107, 109, ObjectRule::Content, 107),
+    (110, 110, ObjectRule::Content, 121),
+    (111, 114, ObjectRule::Form, 129),
+    (115, 115, ObjectRule::Content, 111),
+    (116, 119, ObjectRule::Form, 129),
+    (120, 120, ObjectRule::Content, 116),
+    (121, 121, ObjectRule::Content, 121),
+];
+
+fn are_faults<const N: usize>(
+    alloc: Global,
+    file: [u8; N],
+    first: usize,
+    last: usize,
+    rule: ObjectRule,
+    at: usize,
+) -> bool {
+    (first..=last).all(|place| is_fault(alloc, &changed(file, place, 0xFF), rule, at))
+}
+
+#[test]
+fn ff_in_the_place_of_a_byte_is_the_fault_of_its_field(rt: HostRuntime) {
+    let alloc = rt.alloc();
+    for (first, last, rule, at) in FF_IN_ONE_PUSH {
+        assert!(rt;
+            are_faults(alloc, ONE_PUSH, first, last, rule, at),
+            "{first}"
+        );
+    }
+    for (first, last, rule, at) in FF_IN_ONE_PROFILE {
+        assert!(rt;
+            are_faults(alloc, ONE_PROFILE, first, last, rule, at),
+            "{first}"
+        );
+    }
+}
+
+#[test]
+fn ff_in_a_time_or_a_value_is_another_object(rt: HostRuntime) -> Result<(), Fail> {
+    let alloc = rt.alloc();
+    for (first, last) in [(78, 85), (100, 106), (122, 128)] {
+        for place in first..=last {
+            assert_eq!(rt;
+                numbers(alloc, &changed(ONE_PROFILE, place, 0xFF))?,
+                (5, 6, 1)
+            );
+        }
+    }
+    Ok(())
+}

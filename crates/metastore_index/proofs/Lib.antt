@@ -1,6 +1,7 @@
 pub mod PairLemmas
 pub mod DivideLemmas
 pub mod PartLemmas
+pub mod LevelLemmas
 pub mod RunLemmas
 pub mod ChangeLemmas
 pub mod CoverLemmas

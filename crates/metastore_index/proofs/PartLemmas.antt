@@ -6,7 +6,7 @@ use Rattle.std.specs.List.Sorted.{IsPartitionedBy}
 use Rattle.metastore_index.specs.declared.entry.Entry.{Entry}
 use Rattle.metastore_index.specs.Entries.{DivideFrom}
 use Rattle.metastore_index.proofs.DivideLemmas.{hi_rises}
-use borrow.Author.Tests.{ltb-true, lt-ltb}
+use borrow.Author.Tests.{leb-true, le-leb, ltb-true, lt-ltb}
 
 same_or_below : (P : ℕ → Type 0) (i j : ℕ) → i ≤ j → P j → (i < j → P i) → P i
 same_or_below P i j le here below =
@@ -20,6 +20,11 @@ pub levels_part : (entries : List Entry) (level : ℕ) → AllPairs (λ older ne
 levels_part entries level levels i j d le within above =
     same_or_below (λ n. ltb level (get_or entries n d).level ≡ true) i j le above
     (λ lt. lt-ltb _ _ (omega (arith, levels i j d lt within, ltb-true _ _ above)))
+
+pub lower_levels_part : (entries : List Entry) (level : ℕ) → AllPairs (λ older newer. newer.level ≤ older.level) entries → IsPartitionedBy (λ entry. leb level entry.level) entries
+lower_levels_part entries level levels i j d le within above =
+    same_or_below (λ n. leb level (get_or entries n d).level ≡ true) i j le above
+    (λ lt. le-leb _ _ (omega (arith, levels i j d lt within, leb-true _ _ above)))
 
 pub ends_part : (entries : List Entry) (at : ℕ) → DivideFrom 0 entries → IsPartitionedBy (λ entry. leb entry.hi at) entries
 ends_part entries at divide = IsPartitionedBy-leb (λ (entry : Entry). entry.hi) entries at (λ i j d le within.

@@ -1,6 +1,6 @@
 -- The live entries of a store, and what becomes of them.
-use Rattle.std.specs.Prelude.{◌≡◌, ◌≢◌, ◌⊎◌, ℕ, ◌-◌, ◌^◌, ◌<◌, ◌≤◌, List, [], ◌∷◌, ◌++◌}
-use Rattle.std.specs.List.{All, AllPairs, Contains}
+use Rattle.std.specs.Prelude.{◌≡◌, ◌≢◌, ◌⊎◌, ℕ, ◌-◌, ◌^◌, ◌<◌, ◌≤◌, List, [], ◌∷◌, ◌++◌, nat_eq}
+use Rattle.std.specs.List.{All, AllPairs, Contains, filter}
 use Rattle.metastore_index.specs.declared.entry.Entry.{Entry}
 
 -- the push after the last of these entries
@@ -18,6 +18,10 @@ DivideFrom start (entry ∷ more) = (entry.lo ≡ start) × DivideFrom entry.hi 
 pub record AreEntries (entries : List Entry) : Type 0 where
   pub divide : DivideFrom 0 entries
   pub levels : AllPairs (λ older newer. newer.level ≤ older.level) entries
+
+-- the entries of this level, from the oldest on
+abbrev pub of_level : ℕ → List Entry → List Entry
+of_level level entries = filter (λ entry. nat_eq entry.level level) entries
 
 -- entries of one level that cover just these pushes, the first of them the oldest of its level
 pub record IsRunOver (before run after : List Entry) (level lo hi : ℕ) : Type 0 where

@@ -2,7 +2,7 @@
 use Rattle.std.specs.Prelude.{◌≡◌, ℕ, ◌^◌, ◌<◌, ◌≤◌, leb, ltb, ◌&&◌, List, [], ◌∷◌, ◌++◌, length}
 use Rattle.std.specs.List.{All, AllPairs, Contains, filter}
 use Rattle.metastore_index.specs.declared.entry.Entry.{Entry}
-use Rattle.metastore_index.specs.Entries.{AreEntries, Becomes, Covers, HasRun, IndexView, IsTaken, end_of}
+use Rattle.metastore_index.specs.Entries.{AreEntries, Becomes, Covers, HasRun, IndexView, IsTaken, end_of, of_level}
 use Rattle.metastore_index.specs.Taken.{BodiesComeTo, ComesTo, IsBodyOf, Takes}
 
 -- no record comes to nothing
@@ -55,6 +55,17 @@ BoundariesStay =
 abbrev pub OneRun : Type 0
 OneRun =
     (entries : List Entry) → AreEntries entries → (lo hi level other : ℕ) → HasRun entries level lo hi → HasRun entries other lo hi → level ≡ other
+
+-- before the entries of this level stand those of higher ones alone, and behind them those of lower ones
+pub record IsStretch (entries before after : List Entry) (level : ℕ) : Type 0 where
+  pub parts : entries ≡ before ++ of_level level entries ++ after
+  pub above : All (λ entry. level < entry.level) before
+  pub below : All (λ entry. entry.level < level) after
+
+-- the entries of a level stand together
+abbrev pub LevelsStandTogether : Type 0
+LevelsStandTogether =
+    (entries : List Entry) → AreEntries entries → (level : ℕ) → (before : List Entry) × (after : List Entry) × IsStretch entries before after level
 
 -- the entry's pushes have this one among them
 abbrev pub Holds : Entry → ℕ → Type 0

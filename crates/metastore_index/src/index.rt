@@ -1,13 +1,13 @@
 // The live entries.
 ghost use Rattle.std.specs.Prelude.{◌≡◌, ℕ, ◌+◌, ◌^◌, ◌<◌, ◌≤◌, List, [], ◌∷◌, ◌++◌, IfOk, IfSome, IsNone, IsErrOf, OnOk, OnErr};
 ghost use Rattle.std.specs.List.{All};
-ghost use Rattle.metastore_index.specs.Entries.{AreEntries, Becomes, Covers, HasRun, IsTaken, end_of};
+ghost use Rattle.metastore_index.specs.Entries.{AreEntries, Becomes, Covers, HasRun, IsTaken, end_of, of_level};
 ghost use Rattle.metastore_index.specs.Taken.{ComesTo};
 
 use crate::changes::take_in;
 use crate::entry::Entry;
 use crate::fault::ApplyFault;
-use crate::runs::{cover, end_of, level_of_run};
+use crate::runs::{cover, end_of, level_of_run, of_level};
 use faults::Refused;
 use std::alloc::{AllocError, Global};
 use std::marker::Model;
@@ -100,6 +100,15 @@ impl Index {
         ensures ids { All (λ entry. entry.id ≤ self.now.greatest) self.now.entries }
     {
         &self.entries
+    }
+
+    /// The entries of one level, from the oldest pushes on. It takes no memory, and finds them without going through the
+    /// others.
+    pub fn of_level(&self, level: u8) -> &[Entry]
+        ensures entries { result.now ≡ of_level level self.now.entries }
+        ensures sound { AreEntries self.now.entries }
+    {
+        of_level(&self.entries, level)
     }
 
     /// The push after the last. It takes no memory.

@@ -1,5 +1,5 @@
 //! What holds of all records of an index.
-ghost use Rattle.metastore_index.specs.Laws.{NoneComeToNothing, OneMoreComes, OneMoreBodyComes, LiveOnesDivide, LiveOnesWereTaken, IdsRise, EndMoves, EachIsHeldOnce, OthersStay, LiveOnesCover, LaterIsHigher, LiveOneIsHighest, AtMostFourHold, OneIndex, OneIndexOfBodies, NextIsTaken, BoundariesStay, OneRun, OneReading, EachBodyReads, FrontComes};
+ghost use Rattle.metastore_index.specs.Laws.{NoneComeToNothing, OneMoreComes, OneMoreBodyComes, LiveOnesDivide, LiveOnesWereTaken, IdsRise, EndMoves, EachIsHeldOnce, OthersStay, LiveOnesCover, LaterIsHigher, LiveOneIsHighest, AtMostFourHold, OneIndex, OneIndexOfBodies, NextIsTaken, BoundariesStay, OneRun, OneReading, EachBodyReads, FrontComes, LevelsStandTogether};
 
 /// What records come to, each taken in turn. It does nothing: its clauses are the laws.
 pub fn records_taken_in_turn()
@@ -34,4 +34,10 @@ pub fn one_index()
     ensures each { EachBodyReads }
     ensures front { FrontComes }
     ensures run { OneRun }
+{}
+
+/// The entries of one level have those of higher ones before them, and those of lower ones behind them. It does nothing:
+/// its clause is the law.
+pub fn levels_of_entries()
+    ensures { LevelsStandTogether }
 {}

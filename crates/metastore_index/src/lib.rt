@@ -15,7 +15,7 @@ mod runs;
 pub use entry::{Entry, MAX_LEVEL};
 pub use fault::ApplyFault;
 pub use index::Index;
-pub use laws::{holders_of_a_push, one_index, records_taken_in_turn};
+pub use laws::{holders_of_a_push, levels_of_entries, one_index, records_taken_in_turn};
 
 #[cfg(test)]
 mod tests;

@@ -1,7 +1,7 @@
 // Where entries stand among others.
 ghost use Rattle.std.specs.Prelude.{◌≡◌, ℕ, ◌-◌, ◌<◌, ◌≤◌, IfSome, IsNone, drop, length, take};
 ghost use Rattle.std.specs.List.{AllWithin};
-ghost use Rattle.metastore_index.specs.Entries.{AreEntries, Covers, HasRun, IsRunOver, end_of};
+ghost use Rattle.metastore_index.specs.Entries.{AreEntries, Covers, HasRun, IsRunOver, end_of, of_level};
 
 use crate::entry::{Entry, MAX_LEVEL};
 
@@ -23,6 +23,35 @@ fn count_above(entries: &[Entry], level: u8) -> usize
     ensures others { AllWithin (λ entry. entry.level ≤ level) entries.now result (length entries.now) }
 {
     entries.partition_point(|entry| entry.level > level)
+}
+
+// How many entries are of the level or above it.
+fn count_down_to(entries: &[Entry], level: u8) -> usize
+    requires { AreEntries entries.now }
+    ensures within { result ≤ length entries.now }
+    ensures above { AllWithin (λ entry. level ≤ entry.level) entries.now 0 result }
+    ensures others { AllWithin (λ entry. entry.level < level) entries.now result (length entries.now) }
+{
+    entries.partition_point(|entry| entry.level >= level)
+}
+
+// Where the entries of the level stand: the first of them, and the one after their last.
+fn find_level(entries: &[Entry], level: u8) -> (usize, usize)
+    requires { AreEntries entries.now }
+    ensures order { result.0 ≤ result.1 }
+    ensures within { result.1 ≤ length entries.now }
+    ensures found { take (result.1 - result.0) (drop result.0 entries.now) ≡ of_level level entries.now }
+{
+    (count_above(entries, level), count_down_to(entries, level))
+}
+
+// The entries of the level.
+pub(crate) fn of_level(entries: &[Entry], level: u8) -> &[Entry]
+    requires { AreEntries entries.now }
+    ensures { result.now ≡ of_level level entries.now }
+{
+    let (start, end) = find_level(entries, level);
+    &entries[start..end]
 }
 
 // How many entries have no push from this one on.

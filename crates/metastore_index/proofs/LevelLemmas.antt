@@ -1,11 +1,11 @@
 -- The entries of one level, which stand together.
 use Rattle.std.proofs.Common.{◌≡◌, ◌≢◌, ℕ, suc, ◌+◌, ◌-◌, ◌<◌, ◌≤◌, Bool, cond, List, [], ◌∷◌, ◌++◌, length, get_or, take, drop, refl, sym, ap, ◌∙◌, AllPairs, ⊎_elim, arith, append-nil, length-take, length-drop}
 use Rattle.std.specs.List.{All, AllByRecursion, AllWithin}
-use Rattle.std.proofs.lemmas.Bool.{cases_lt, cases_order, eq-eqb, ne_eqb}
+use Rattle.std.proofs.lemmas.Bool.{cases_lt, eq-eqb, ne_eqb}
 use Rattle.std.proofs.lemmas.List.{get_or-take, get_or-drop}
 use Rattle.std.proofs.lemmas.List.Elements.{All-cons, All-nil, filter-append, recursion_from_All}
 use Rattle.metastore_index.specs.declared.entry.Entry.{Entry}
-use Rattle.metastore_index.specs.Entries.{AreEntries, of_level}
+use Rattle.metastore_index.specs.Entries.{of_level}
 use Rattle.metastore_index.specs.Laws.{IsStretch, LevelsStandTogether}
 use Rattle.metastore_index.proofs.RunLemmas.{three_parts}
 
@@ -60,7 +60,7 @@ module _ (entries : List Entry) (level start end : ℕ) (start_within : start �
       let middle = take (end - start) (drop start entries) in
       let long : length middle ≡ end - start = omega (arith, level_ordered, within, length-take (end - start) (drop start entries), length-drop start entries) in
       let at : (k : ℕ) (d : Entry) → k < length middle → get_or middle k d ≡ get_or entries (start + k) d =
-          λ k d low. get_or-take (end - start) (drop start entries) k d (omega (arith, long, low)) ∙ get_or-drop start entries k d in
+      λ k d low. get_or-take (end - start) (drop start entries) k d (omega (arith, long, low)) ∙ get_or-drop start entries k d in
       sym (ap (of_level level) (three_parts entries start end level_ordered)
       ∙ of_level-middle level (take start entries) middle (drop end entries)
       (λ k d low. omega (arith, length-take start entries, low, ap (λ (entry : Entry). entry.level) (get_or-take start entries k d (omega (arith, length-take start entries, low))), above k d (omega arith) (omega (arith, length-take start entries, low))))
@@ -89,12 +89,12 @@ begins_with level (entry ∷ more) falls low =
     let later : All (λ (other : Entry). other.level ≤ entry.level) more = first_falls entry more falls in
     ⊎_elim
     (λ below.
-        let none : All (λ (other : Entry). other.level < level) more = λ k d within. omega (arith, below, later k d within) in
-        let is : of_level level (entry ∷ more) ≡ [] = of_level-other level entry more (λ same. omega (arith, same, below)) ∙ of_level-none level more (recursion_from_All (λ other. other.level ≢ level) more (λ k d within same. omega (arith, same, none k d within))) in
-        (entry ∷ more, ap (λ (l : List Entry). l ++ entry ∷ more) (sym is), All-cons (λ (other : Entry). other.level < level) entry more below none))
+    let none : All (λ (other : Entry). other.level < level) more = λ k d within. omega (arith, below, later k d within) in
+    let is : of_level level (entry ∷ more) ≡ [] = of_level-other level entry more (λ same. omega (arith, same, below)) ∙ of_level-none level more (recursion_from_All (λ other. other.level ≢ level) more (λ k d within same. omega (arith, same, none k d within))) in
+    (entry ∷ more, ap (λ (l : List Entry). l ++ entry ∷ more) (sym is), All-cons (λ (other : Entry). other.level < level) entry more below none))
     (λ same.
-        let rest = begins_with level more (later_falls entry more falls) (λ k d within. omega (arith, first, later k d within)) in
-        (rest.0, ap (λ (l : List Entry). entry ∷ l) rest.1 ∙ ap (λ (l : List Entry). l ++ rest.0) (sym (of_level-same level entry more (omega (arith, first, same)))), rest.2))
+    let rest = begins_with level more (later_falls entry more falls) (λ k d within. omega (arith, first, later k d within)) in
+    (rest.0, ap (λ (l : List Entry). entry ∷ l) rest.1 ∙ ap (λ (l : List Entry). l ++ rest.0) (sym (of_level-same level entry more (omega (arith, first, same)))), rest.2))
     (cases_lt entry.level level)
 
 stretch : (level : ℕ) (entries : List Entry) → Falls entries → (before : List Entry) × (after : List Entry) × IsStretch entries before after level
@@ -102,17 +102,20 @@ stretch level [] falls = ([], [], record { parts = refl; above = All-nil (λ (en
 stretch level (entry ∷ more) falls =
     ⊎_elim
     (λ above.
-        let rest = stretch level more (later_falls entry more falls) in
-        let is : of_level level (entry ∷ more) ≡ of_level level more = of_level-other level entry more (λ same. omega (arith, same, above)) in
-        (entry ∷ rest.0, rest.1, record {
-          parts = ap (λ (l : List Entry). entry ∷ l) rest.2.parts ∙ ap (λ (l : List Entry). entry ∷ (rest.0 ++ l ++ rest.1)) (sym is);
-          above = All-cons (λ (other : Entry). level < other.level) entry rest.0 above rest.2.above;
-          below = rest.2.below;
-        }))
+    let rest = stretch level more (later_falls entry more falls) in
+    let is : of_level level (entry ∷ more) ≡ of_level level more = of_level-other level entry more (λ same. omega (arith, same, above)) in (
+      entry ∷ rest.0,
+      rest.1,
+      record {
+        parts = ap (λ (l : List Entry). entry ∷ l) rest.2.parts ∙ ap (λ (l : List Entry). entry ∷ (rest.0 ++ l ++ rest.1)) (sym is);
+        above = All-cons (λ (other : Entry). level < other.level) entry rest.0 above rest.2.above;
+        below = rest.2.below;
+      },
+    ))
     (λ low.
-        let later : All (λ (other : Entry). other.level ≤ entry.level) more = first_falls entry more falls in
-        let rest = begins_with level (entry ∷ more) falls (All-cons (λ (other : Entry). other.level ≤ level) entry more low (λ k d within. omega (arith, low, later k d within))) in
-        ([], rest.0, record { parts = rest.1; above = All-nil (λ (other : Entry). level < other.level); below = rest.2 }))
+    let later : All (λ (other : Entry). other.level ≤ entry.level) more = first_falls entry more falls in
+    let rest = begins_with level (entry ∷ more) falls (All-cons (λ (other : Entry). other.level ≤ level) entry more low (λ k d within. omega (arith, low, later k d within))) in
+    ([], rest.0, record { parts = rest.1; above = All-nil (λ (other : Entry). level < other.level); below = rest.2 }))
     (cases_lt level entry.level)
 
 pub levels_stand_together : LevelsStandTogether

@@ -1,0 +1,3 @@
+pub mod FewestLemmas
+pub mod RunLemmas
+pub mod JobLemmas

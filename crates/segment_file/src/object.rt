@@ -80,11 +80,13 @@ impl Object {
         &self.pushes
     }
 
-    // The number of its first push, and its pushes. It takes no memory.
-    pub(crate) fn into_pushes(self) -> (u64, Vec<Push>)
+    /// The number of its first push, and its pushes, moved out of it. It takes no memory.
+    pub fn into_pushes(self) -> (u64, Vec<Push>)
         ensures lo { result.0 ≡ self.lo }
         ensures pushes { result.1.items ≡ self.pushes }
+        ensures some { self.pushes ≢ [] }
         ensures within { self.lo + length self.pushes < 2 ^ 64 }
+        ensures fit { Fit (file_fields (file_of self.lo self.pushes)) }
     {
         (self.lo, self.pushes)
     }

@@ -1,3 +1,4 @@
 pub mod FewestLemmas
 pub mod RunLemmas
 pub mod JobLemmas
+pub mod EndLemmas

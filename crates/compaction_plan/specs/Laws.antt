@@ -1,8 +1,8 @@
 -- What holds of all jobs.
-use Rattle.std.specs.Prelude.{◌≡◌, ℕ, ◌+◌, ◌<◌, ◌≤◌, List, length}
+use Rattle.std.specs.Prelude.{◌≡◌, ℕ, ◌+◌, ◌-◌, ◌<◌, ◌≤◌, List, length, sum_by}
 use Rattle.std.specs.List.{All}
 use Rattle.metastore_index.specs.declared.entry.Entry.{Entry}
-use Rattle.metastore_index.specs.Entries.{AreEntries, HasPlace, HasRun, of_level}
+use Rattle.metastore_index.specs.Entries.{AreEntries, Becomes, HasPlace, HasRun, of_level}
 use Rattle.compaction_plan.specs.declared.job.Job.{Job}
 use Rattle.compaction_plan.specs.Jobs.{HasJob, IsDue, IsJob, bytes_of, enough_bytes, highest_level, most_entries}
 
@@ -39,3 +39,11 @@ abbrev pub FewStay : Type 0
 FewStay =
     (entries : List Entry) → ((level : ℕ) → ¬ (HasJob entries level)) → (level : ℕ) → level < highest_level
     → (length (of_level level entries) < most_entries) × (bytes_of (of_level level entries) < enough_bytes)
+
+-- how often these entries can be merged at most: each takes one of them a level up at least
+abbrev pub merges_left : List Entry → ℕ
+merges_left entries = sum_by (λ entry. highest_level - entry.level) entries
+
+-- an entry that stands in for others leaves fewer merges, so merging what is due ends
+abbrev pub MergingEnds : Type 0
+MergingEnds = (entries : List Entry) (entry : Entry) (next : List Entry) → Becomes entries entry next → 1 ≤ entry.level → merges_left next < merges_left entries

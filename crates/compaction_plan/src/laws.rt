@@ -1,5 +1,5 @@
 //! What holds of all jobs.
-ghost use Rattle.compaction_plan.specs.Laws.{DueOnesAreJobs, FewStay, JobsAreBounded, JobsAreRuns, JobsAreSmall, JobsHavePlaces, OneJob};
+ghost use Rattle.compaction_plan.specs.Laws.{DueOnesAreJobs, FewStay, JobsAreBounded, JobsAreRuns, JobsAreSmall, JobsHavePlaces, MergingEnds, OneJob};
 
 /// What a job is to the entries that it is made of. It does nothing: its clauses are the laws.
 pub fn jobs_of_entries()
@@ -11,7 +11,9 @@ pub fn jobs_of_entries()
     ensures bytes { JobsAreBounded }
 {}
 
-/// How little stands at the levels where no job is due. It does nothing: its clause is the law.
+/// How little stands at the levels where no job is due, and that merging comes there. It does nothing: its clauses are
+/// the laws.
 pub fn levels_without_a_job()
-    ensures { FewStay }
+    ensures few { FewStay }
+    ensures ends { MergingEnds }
 {}

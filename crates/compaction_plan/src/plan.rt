@@ -5,14 +5,15 @@ ghost use Rattle.compaction_plan.specs.Jobs.{AreEnough, AreFewest, HasJob, IsDue
 use crate::Job;
 use metastore_index::{Entry, Index, MAX_LEVEL};
 
-/// So many entries are merged at once, so each level has fewer where no job is due.
+/// So many entries are merged at once: so each level has fewer where no job is due.
 pub const MAX_ENTRIES: usize = 8;
 
-/// Fewer are merged where their objects' files have so many bytes together, as many as a merge may well hold at once.
+/// Fewer are merged where their objects' files have so many bytes together: so a merge holds little more than this
+/// beside the last of them.
 pub const ENOUGH_BYTES: u64 = 33_554_432;
 
-/// The job of the lowest level that has one. It takes no memory, and looks at as many entries as the job has and a few
-/// more, however many there are.
+/// The job of the lowest level that has one. It takes no memory, and goes through eight entries of a level at most,
+/// however many there are: where a level begins is found by halving.
 pub fn due(index: &Index) -> Option<Job>
     ensures job { IfSome result (λ job. IsDue index.now.entries job) }
     ensures none { IsNone result → (level : ℕ) → ¬ (HasJob index.now.entries level) }

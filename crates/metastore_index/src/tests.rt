@@ -112,6 +112,29 @@ fn a_run_begins_with_the_oldest_of_its_level(rt: HostRuntime) -> Result<(), Fail
     Ok(())
 }
 
+// Whether the level's entries hold just these pushes.
+fn has_level(index: &Index, level: u8, lo: u64, hi: u64) -> bool {
+    match index.of_level(level) {
+        [first, .., last] => first.lo == lo && last.hi == hi,
+        [only] => only.lo == lo && only.hi == hi,
+        [] => false,
+    }
+}
+
+// Eight pushes, the first four of them in one entry of level 1.
+fn tells_levels(alloc: Global) -> Result<bool, Fail> {
+    let mut index = eight(alloc)?;
+    index.apply(entry(0, 4, 9, 1))?;
+    let others = index.of_level(2).is_empty() && index.of_level(9).is_empty();
+    Ok(others && has_level(&index, 1, 0, 4) && has_level(&index, 0, 4, 8))
+}
+
+#[test]
+fn the_entries_of_a_level_are_told(rt: HostRuntime) -> Result<(), Fail> {
+    assert!(rt; tells_levels(rt.alloc())?);
+    Ok(())
+}
+
 #[test]
 fn an_id_is_above_all_that_were_taken(rt: HostRuntime) -> Result<(), Fail> {
     let mut index = eight(rt.alloc())?;

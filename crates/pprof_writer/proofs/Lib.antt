@@ -1,0 +1,4 @@
+mod PlaceLemmas
+mod FrameLemmas
+mod TextLemmas
+mod WriterLemmas

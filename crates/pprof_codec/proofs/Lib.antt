@@ -16,3 +16,4 @@ pub mod RunLemmas
 pub mod BuildLemmas
 pub mod ProfileLemmas
 pub mod AnswerLemmas
+pub mod PlaceLemmas

@@ -17,7 +17,7 @@ use Rattle.profile_model.proofs.SumLawLemmas.{sums_of-any_order}
 use Rattle.pprof_message.specs.Pprof.{Pprof}
 use Rattle.pprof_codec.specs.Frames.{root_first}
 use Rattle.pprof_codec.specs.Profiles.{samples_of, stacks_weight}
-use Rattle.pprof_codec.specs.Tables.{first_stack, ids_at, numbers_of, run_added, sample_at, sums_over, sums_weight, value_over}
+use Rattle.pprof_codec.specs.Tables.{first_stack, ids_at, numbers_of, run_added, sample_at, stack_at, sums_over, sums_weight, value_over}
 use Rattle.pprof_codec.proofs.OrderLemmas.{stack-at, take-part, total-order, total-over, value-part}
 use Rattle.pprof_codec.proofs.WeightLemmas.{fold-parts, weight-grows, weighs-with_added}
 
@@ -129,14 +129,17 @@ module _ (pprof : Pprof) (order : List ℕ) (all : IsPermutation (numbers_of ppr
       let most = value-part pprof number order from n in
       let whole = total-order pprof number order all in omega arith
 
-  pub next-part : 0 < n → 0 < length (drop from order) → All (λ at. ids_at pprof at ≡ ids_at pprof (get_or (drop from order) 0 0)) (take n (drop from order))
+  pub known-rest : All (λ at. at < length pprof.samples) (drop from order)
+  known-rest = All-drop (λ at. at < length pprof.samples) from order (All-permutation (λ at. at < length pprof.samples) (numbers_of pprof) order all known)
+
+  pub next-part : 0 < n → 0 < length (drop from order) → All (λ at. stack_at pprof at ≡ stack_at pprof (get_or (drop from order) 0 0)) (take n (drop from order))
       → run_added pprof (take n (drop from order)) (first_stack pprof (take n (drop from order))) (sums_over pprof (take from order)) ≡ sums_over pprof (take (from + n) order)
   next-part some more same =
       let part = take n (drop from order) in
       let first : get_or part 0 0 ≡ get_or (drop from order) 0 0 = get_or-take n (drop from order) 0 0 some in
       run-over pprof (take from order) part (first_stack pprof part) (λ number k d less.
       stack-at pprof number (get_or part k d) (known-part k d less)
-      ∙ ap (root_first pprof) (same k d less ∙ ap (ids_at pprof) (sym first)))
+      ∙ same k d less ∙ ap (stack_at pprof) (sym first))
       ∙ ap (sums_over pprof) (take-part order from n)
 
 -- ---- one sample type after another

@@ -1,9 +1,10 @@
 -- What is kept of a profile's message while it is read.
-use Rattle.std.specs.Prelude.{◌≡◌, ◌==◌, ◌&&◌, ℕ, ◌+◌, ◌-◌, ◌<◌, Bool, List, [], length, map, position, get_or, nat_lt, slice_get, sum_by, option_and_then, Option, Some, Result, Ok, Err, if◌then◌else◌}
+use Rattle.std.specs.Prelude.{◌≡◌, ◌==◌, ◌&&◌, ℕ, ◌+◌, ◌-◌, ◌<◌, Bool, List, [], ◌∷◌, ◌++◌, length, map, reverse, position, get_or, nat_lt, slice_get, sum_by, option_and_then, Option, Some, Result, Ok, Err, Vec, if◌then◌else◌}
 use Rattle.std.specs.List.{range_with_len}
 use Rattle.std.specs.Map.{lookup}
 use Rattle.std.specs.BTreeMap.{is_at}
 use Rattle.std.specs.Ordering.{nat_cmp}
+use Rattle.std.specs.Cmp.Lexicographic.{slice_cmp}
 use Rattle.faults.specs.Answers.{IfFault}
 use Rattle.faults.specs.declared.refused.Refused.{Refused}
 use Rattle.profile_model.specs.Sums as sums
@@ -11,7 +12,7 @@ use Rattle.profile_model.specs.Sums.{sums_of, with_added}
 use Rattle.pprof_message.specs.Pprof.{Pprof}
 use Rattle.pprof_codec.specs.declared.fault.PprofFault.{PprofFault}
 use Rattle.pprof_codec.specs.declared.fault.PprofFault.TheVariants.{Weight}
-use Rattle.pprof_codec.specs.Frames.{function_frame, location_frames, root_first}
+use Rattle.pprof_codec.specs.Frames.{address_frame, function_frame, location_frames, root_first, unknown_frame}
 use Rattle.pprof_codec.specs.Profiles.{samples_of, stacks_weight}
 use Rattle.pprof_codec.specs.Checks.{first_of}
 
@@ -47,6 +48,18 @@ pub record AreLocations (pprof : Pprof) (ids : List ℕ) (frames : List (List (L
   pub known : ids ≡ map (λ location. location.id) pprof.locations
   pub framed : frames ≡ map (location_frames pprof) pprof.locations
 
+-- the frames that locations may have: each text, the unknown frame, and that of each location's address
+unfoldable pub numbered_frames : Pprof → List (List ℕ)
+numbered_frames pprof = pprof.texts ++ unknown_frame ∷ map (λ location. address_frame location.address) pprof.locations
+
+-- the frame with this number
+abbrev pub frame_numbered : Pprof → ℕ → List ℕ
+frame_numbered pprof number = get_or (numbered_frames pprof) number []
+
+-- the frames of each location, by their numbers
+abbrev pub AreNumberedFrames : {Z : Type 0} → Pprof → List (Vec ℕ Z) → Type 0
+AreNumberedFrames pprof numbers = map (λ one. map (frame_numbered pprof) one.items) numbers ≡ map (location_frames pprof) pprof.locations
+
 -- what the member with this id has
 abbrev pub found_in : {X : Type 0} → List ℕ → List X → ℕ → Option X
 found_in ids values id = option_and_then (slice_get values) (number_of ids id)
@@ -69,6 +82,20 @@ numbers_of pprof = range_with_len 0 (length pprof.samples)
 -- the location ids of the sample with this number
 abbrev pub ids_at : Pprof → ℕ → List ℕ
 ids_at pprof at = get_or (map (λ sample. sample.location_ids) pprof.samples) at []
+
+-- the stack of the sample with this number
+abbrev pub stack_at : Pprof → ℕ → List (List ℕ)
+stack_at pprof at = root_first pprof (ids_at pprof at)
+
+-- each sample's stack is that of the sample whose number is told
+abbrev pub AreAlike : Pprof → List ℕ → Type 0
+AreAlike pprof numbers = map (stack_at pprof) numbers ≡ map (stack_at pprof) (numbers_of pprof)
+
+-- numbers of frames, the leaf first, each with a sample that has their stack
+abbrev pub AreFirsts : {Z : Type 0} → Pprof → List (Vec ℕ Z × ℕ) → Type 0
+AreFirsts {Z} pprof firsts =
+    (frames : Vec ℕ Z) (at : ℕ) → lookup (is_at (λ known. slice_cmp nat_cmp frames.items known.items)) firsts ≡ Some at
+    → reverse (map (frame_numbered pprof) frames.items) ≡ stack_at pprof at
 
 -- the stack of the sample with this number, and its value of a sample type
 abbrev pub sample_at : Pprof → ℕ → ℕ → sums.Sample

@@ -1,5 +1,5 @@
 // The functions of a profile, and the frame that each stands for.
-ghost use Rattle.std.specs.Prelude.{◌≡◌, ◌<◌, [], length, map, is_some, MatchOption};
+ghost use Rattle.std.specs.Prelude.{◌≡◌, ◌<◌, ℕ, List, [], ◌∷◌, ◌++◌, length, get_or, map, is_some, MatchOption};
 ghost use Rattle.std.specs.Option.{option_copied};
 ghost use Rattle.pprof_codec.specs.Members.{text_at};
 ghost use Rattle.pprof_codec.specs.Frames.{function_frame, unknown_frame};
@@ -22,7 +22,10 @@ pub(crate) const UNKNOWN_FRAME: &str = "[unknown]";
 pub(crate) struct Functions {
     ids: Ids,
     frames: Vec<Name>,
+    // The place of each frame among the texts.
+    places: Vec<usize>,
     ghost even: { length frames.items ≡ length ids },
+    ghost placed: { length places.items ≡ length ids },
 }
 
 impl Functions {
@@ -35,10 +38,12 @@ impl Functions {
     ) -> Result<Functions, Refused<PprofFault>>
         requires { unknown.now ≡ unknown_frame }
         ensures { Judges result (function_faults names.now functions.now) (λ table.
-            (table.ids ≡ map (λ f. f.id) functions.now) × (table.frames.items ≡ map (function_frame names.now) functions.now)) }
+            (table.ids ≡ map (λ f. f.id) functions.now) × (table.frames.items ≡ map (function_frame names.now) functions.now)
+            × ((rest : List (List ℕ)) → map (λ place. get_or (names.now ++ unknown_frame ∷ rest) place []) table.places.items ≡ map (function_frame names.now) functions.now)) }
     {
         let mut ids = Ids::new(alloc);
         let mut frames = Vec::with_capacity(alloc, functions.len())?;
+        let mut places = Vec::with_capacity(alloc, functions.len())?;
         for (number, function) in functions.iter().enumerate() {
             let frame = frame_of(names, unknown, function);
             if let Some(fault) = function_fault(names, &ids, number as u64, function, frame) {
@@ -46,8 +51,13 @@ impl Functions {
             }
             ids.push(function.id)?;
             frames.push(frame.clone()?)?;
+            places.push(place_of(names, function))?;
         }
-        Ok(Functions { ids, frames })
+        Ok(Functions {
+            ids,
+            frames,
+            places,
+        })
     }
 
     // The frame of the function with this id.
@@ -56,6 +66,14 @@ impl Functions {
     {
         let number = self.ids.number(id)?;
         Some(&self.frames[number])
+    }
+
+    // The place of the frame of the function with this id.
+    pub(crate) fn place(&self, id: u64) -> Option<usize>
+        ensures { result ≡ found_in self.now.ids self.now.places.items id }
+    {
+        let number = self.ids.number(id)?;
+        Some(self.places[number])
     }
 
     // Whether there is a function with this id.
@@ -113,4 +131,32 @@ fn filled(names: &[Name], place: i64) -> Option<&Name>
 {
     let name = text_at(names, place)?;
     if name.is_empty() { None } else { Some(name) }
+}
+
+// The place of the function's frame among the texts, and for the unknown frame the place after them.
+fn place_of(names: &[Name], function: &Function) -> usize
+    ensures { (rest : List (List ℕ)) → get_or (names.now ++ unknown_frame ∷ rest) result [] ≡ function_frame names.now function.now }
+{
+    if let Some(place) = filled_place(names, function.name) {
+        return place;
+    }
+    match filled_place(names, function.system_name) {
+        Some(place) => place,
+        None => names.len(),
+    }
+}
+
+// The place as a number, where its text has bytes.
+fn filled_place(names: &[Name], place: i64) -> Option<usize>
+    ensures { MatchOption result (text_at names.now place ≡ []) (λ at. (at < length names.now) × (get_or names.now at [] ≡ text_at names.now place) × (0 < length (get_or names.now at []))) }
+{
+    if place < 0 {
+        return None;
+    }
+    let name = names.get(place as usize)?;
+    if name.is_empty() {
+        None
+    } else {
+        Some(place as usize)
+    }
 }

@@ -7,7 +7,7 @@ ghost use Rattle.profile_model.specs.Sums.{total_of};
 ghost use Rattle.pprof_codec.specs.Frames.{stack_of, unknown_frame};
 ghost use Rattle.pprof_codec.specs.Profiles.{samples_of};
 ghost use Rattle.pprof_codec.specs.Checks.{first_of, judged_faults, faults_to_types, type_faults, place_faults, value_faults};
-ghost use Rattle.pprof_codec.specs.Tables.{AreLocations, Judges};
+ghost use Rattle.pprof_codec.specs.Tables.{AreLocations, AreNumberedFrames, Judges};
 
 use crate::PprofFault;
 use crate::functions::{Functions, UNKNOWN_FRAME};
@@ -31,6 +31,7 @@ pub(crate) struct Judged<'a> {
     ghost texts: { names.items ≡ message.texts },
     ghost named: { unknown ≡ unknown_frame },
     ghost located: { AreLocations message locations.ids locations.frames.items },
+    ghost numbered: { AreNumberedFrames message locations.numbers.items },
     ghost stacks: { All (λ sample. IsStack (stack_of message sample)) message.samples },
     ghost totals: { (number : ℕ) → number < length message.sample_types → total_of (samples_of message number) < total_bound },
 }
@@ -88,7 +89,8 @@ fn judge_locations(
 ) -> Result<Locations, Refused<PprofFault>>
     requires texts { names.now ≡ message.now.texts }
     requires name { unknown.now ≡ unknown_frame }
-    ensures { Judges result (place_faults message.now) (λ table. AreLocations message.now table.ids table.frames.items) }
+    ensures { Judges result (place_faults message.now) (λ table.
+        AreLocations message.now table.ids table.frames.items × AreNumberedFrames message.now table.numbers.items) }
 {
     let functions = Functions::read(alloc, names, unknown, message.functions())?;
     Locations::read(alloc, message, unknown, &functions)

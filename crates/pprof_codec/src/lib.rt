@@ -9,6 +9,7 @@ mod ids;
 mod judged;
 mod laws;
 mod locations;
+mod numbers;
 mod reader;
 mod room;
 mod runs;

@@ -1,12 +1,12 @@
 // The locations of a profile, and the frames that each stands for.
-ghost use Rattle.std.specs.Prelude.{◌≡◌, ◌==◌, ◌||◌, [], ◌∷◌, length, map, is_some, IfOk};
+ghost use Rattle.std.specs.Prelude.{◌≡◌, ◌==◌, ◌||◌, ◌^◌, ◌<◌, [], ◌∷◌, length, map, is_some, slice_get, IfOk, Some};
 ghost use Rattle.std.specs.List.{list_all};
 ghost use Rattle.std.specs.Option.{option_copied};
 ghost use Rattle.pprof_message.specs.Gathered.{location_in};
 ghost use Rattle.pprof_message.specs.Pprof.{Pprof};
 ghost use Rattle.pprof_codec.specs.Frames.{address_frame, line_frame, location_frames, unknown_frame};
 ghost use Rattle.pprof_codec.specs.Checks.{first_of, faults_of_location, location_faults};
-ghost use Rattle.pprof_codec.specs.Tables.{AreFunctions, AreLocations, Judges, found_in};
+ghost use Rattle.pprof_codec.specs.Tables.{AreFunctions, AreLocations, AreNumberedFrames, Judges, found_in, frame_numbered};
 
 use crate::functions::Functions;
 use crate::ids::Ids;
@@ -78,7 +78,10 @@ impl Frames {
 pub(crate) struct Locations {
     ids: Ids,
     frames: Vec<Frames>,
+    // Those frames by their numbers.
+    numbers: Vec<Vec<usize>>,
     ghost even: { length frames.items ≡ length ids },
+    ghost numbered: { length numbers.items ≡ length ids },
 }
 
 impl Locations {
@@ -91,10 +94,13 @@ impl Locations {
     ) -> Result<Locations, Refused<PprofFault>>
         requires name { unknown.now ≡ unknown_frame }
         requires functions { AreFunctions message.now functions.now.ids functions.now.frames.items }
-        ensures { Judges result (location_faults message.now) (λ table. AreLocations message.now table.ids table.frames.items) }
+        requires places { map (frame_numbered message.now) functions.now.places.items ≡ functions.now.frames.items }
+        ensures { Judges result (location_faults message.now) (λ table.
+            AreLocations message.now table.ids table.frames.items × AreNumberedFrames message.now table.numbers.items) }
     {
         let mut ids = Ids::new(alloc);
         let mut frames = Vec::with_capacity(alloc, message.locations())?;
+        let mut numbers = Vec::with_capacity(alloc, message.locations())?;
         for number in 0..message.locations() {
             let location = message.location(number);
             if let Some(fault) = location_fault(functions, &ids, number as u64, &location) {
@@ -102,8 +108,13 @@ impl Locations {
             }
             ids.push(location.id)?;
             frames.push(frames_of(alloc, unknown, functions, &location)?)?;
+            numbers.push(numbers_of(alloc, message, functions, number, &location)?)?;
         }
-        Ok(Locations { ids, frames })
+        Ok(Locations {
+            ids,
+            frames,
+            numbers,
+        })
     }
 
     // The frames of the location with this id.
@@ -112,6 +123,14 @@ impl Locations {
     {
         let number = self.ids.number(id)?;
         Some(&self.frames[number])
+    }
+
+    // The numbers of the frames of the location with this id.
+    pub(crate) fn numbers(&self, id: u64) -> Option<&Vec<usize>>
+        ensures { option_copied result ≡ found_in self.now.ids self.now.numbers.items id }
+    {
+        let number = self.ids.number(id)?;
+        Some(&self.numbers[number])
     }
 }
 
@@ -189,6 +208,61 @@ fn line_frame<'a>(unknown: &'a Name, functions: &'a Functions, id: u64) -> &'a N
     }
     match functions.frame(id) {
         Some(frame) => frame,
+        None => unknown,
+    }
+}
+
+// The numbers of the frames of the location with this number, the innermost first.
+fn numbers_of(
+    alloc: Global,
+    message: &PprofMessage,
+    functions: &Functions,
+    number: usize,
+    location: &LocationRef,
+) -> Result<Vec<usize>, AllocError>
+    requires bound { number < 2 ^ 63 }
+    requires is { slice_get message.now.locations number ≡ Some (location_in location.now) }
+    requires functions { AreFunctions message.now functions.now.ids functions.now.frames.items }
+    requires places { map (frame_numbered message.now) functions.now.places.items ≡ functions.now.frames.items }
+    ensures { IfOk result (λ numbers. map (frame_numbered message.now) numbers.items ≡ location_frames message.now (location_in location.now)) }
+{
+    if !location.lines.is_empty() {
+        return line_numbers(alloc, message, functions, location.lines);
+    }
+    let mut numbers = Vec::with_capacity(alloc, 1)?;
+    numbers.push(message.texts().len() + 1 + number)?;
+    Ok(numbers)
+}
+
+fn line_numbers(
+    alloc: Global,
+    message: &PprofMessage,
+    functions: &Functions,
+    ids: &[u64],
+) -> Result<Vec<usize>, AllocError>
+    requires functions { AreFunctions message.now functions.now.ids functions.now.frames.items }
+    requires places { map (frame_numbered message.now) functions.now.places.items ≡ functions.now.frames.items }
+    ensures { IfOk result (λ numbers. map (frame_numbered message.now) numbers.items ≡ map (line_frame message.now) ids.now) }
+{
+    let mut numbers = Vec::with_capacity(alloc, ids.len())?;
+    for id in ids {
+        numbers.push(line_number(message, functions, *id))?;
+    }
+    Ok(numbers)
+}
+
+// The number of the frame of the line's function.
+fn line_number(message: &PprofMessage, functions: &Functions, id: u64) -> usize
+    requires functions { AreFunctions message.now functions.now.ids functions.now.frames.items }
+    requires places { map (frame_numbered message.now) functions.now.places.items ≡ functions.now.frames.items }
+    ensures { frame_numbered message.now result ≡ line_frame message.now id }
+{
+    let unknown = message.texts().len();
+    if id == 0 {
+        return unknown;
+    }
+    match functions.place(id) {
+        Some(place) => place,
         None => unknown,
     }
 }

@@ -9,6 +9,7 @@ ghost use Rattle.pprof_codec.specs.Tables.{TakesRoom, all_sums, first_stack, run
 
 use crate::PprofFault;
 use crate::judged::Judged;
+use crate::numbers::stack_numbers;
 use crate::room::take_room;
 use crate::runs::{run_length, sample_order};
 use crate::stacks::build_stack;
@@ -27,11 +28,13 @@ pub(crate) fn build_sums(
     ensures { let sums = all_sums judged.now.message in
         TakesRoom result room.old room.new (sums_weight sums) (λ built. built.items ≡ sums) }
 {
-    let order = sample_order(alloc, &judged.message)?;
+    let numbers = stack_numbers(alloc, judged)?;
+    let stacks = numbers.as_slice();
+    let order = sample_order(alloc, &judged.message, stacks)?;
     let mut sums = no_sums(alloc, &judged.message)?;
     let mut from = 0;
     while from < order.len() {
-        let end = from + run_length(&judged.message, &order[from..]);
+        let end = from + run_length(stacks, &order[from..]);
         add_run(alloc, judged, &order[from..end], &mut sums, room)?;
         from = end;
     }

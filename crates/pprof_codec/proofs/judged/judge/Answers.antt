@@ -27,7 +27,7 @@ pub first_value_fault-requires-clause-texts : goal.first_value_fault-requires-cl
 first_value_fault-requires-clause-texts c = c.deref-2.ensures.value ∙ c.in_ok-names.ensures.1
 
 pub first_value_fault-requires-clause-locations : goal.first_value_fault-requires-clause-locations
-first_value_fault-requires-clause-locations c = c.in_ok-locations.ensures.1
+first_value_fault-requires-clause-locations c = c.in_ok-locations.ensures.1.0
 
 pub returns-in-Some : goal.returns-in-Some
 returns-in-Some c =
@@ -39,7 +39,8 @@ invariant_of-result c =
     record {
       texts = c.in_ok-names.ensures.1;
       named = c.in_ok-unknown.ensures.ok;
-      located = c.in_ok-locations.ensures.1;
+      located = c.in_ok-locations.ensures.1.0;
+      numbered = c.in_ok-locations.ensures.1.1;
       stacks = samples-IsStack c.args.message (functions-HaveFrames c.args.message (functions-none c.args.message c.in_ok-locations.ensures.0)) (samples-none c.args.message values);
       totals = totals-below c.args.message (totals-none c.args.message values);
     }

@@ -4,10 +4,10 @@ use Rattle.std.proofs.lemmas.List.{length-drop, take_all, take_rest}
 use Rattle.std.proofs.lemmas.Result.{err_from_is_err_and}
 use Rattle.std.proofs.Math.Seq.{take-append_seam}
 use Rattle.profile_model.specs.Sums as sums
-use Rattle.pprof_codec.specs.Tables.{all_sums, first_stack, ids_at, run_added, sums_over, sums_weight, value_over}
+use Rattle.pprof_codec.specs.Tables.{AreAlike, all_sums, first_stack, run_added, stack_at, sums_over, sums_weight, value_over}
 use Rattle.pprof_codec.proofs.OrderLemmas.{sums-all, weight-part}
 use Rattle.pprof_codec.proofs.RoomLemmas.{takes-along}
-use Rattle.pprof_codec.proofs.RunLemmas.{known-part, length-over, next-part, total-part, weight-over-none}
+use Rattle.pprof_codec.proofs.RunLemmas.{known-part, known-rest, length-over, next-part, total-part, weight-over-none}
 use Rattle.pprof_codec.proofs.sums.build_sums.Goals as goal
 
 pub loop-from-init : goal.loop-from-init
@@ -53,7 +53,9 @@ returns-in_err-add_run c =
     let some = c.run_length.ensures.some in
     let within = c.run_length.ensures.within in
     let size = ap (length {A = ℕ}) rest in
-    let same = subst (λ (xs : List ℕ). All (λ at. ids_at message at ≡ ids_at message (get_or xs 0 0)) (take n xs)) rest c.run_length.ensures.same in
+    let alike = subst (AreAlike message) (sym c.as_slice-stacks.ensures.value) c.in_ok-numbers.ensures in
+    let known_rest = subst (All (λ at. at < length message.samples)) (sym rest) (known-rest message order c.in_ok-order.ensures from n) in
+    let same = subst (λ (xs : List ℕ). All (λ at. stack_at message at ≡ stack_at message (get_or xs 0 0)) (take n xs)) rest (c.run_length.ensures.same message alike known_rest) in
     let next : run_added message (take (from + n - from) (drop from c.deref-in-loop-from.result.now)) (first_stack message (take (from + n - from) (drop from c.deref-in-loop-from.result.now))) c.deref_mut.result.now ≡ sums_over message (take (from + n) order) =
     (λ k. run_added message (part k) (first_stack message (part k)) (known k)) ∙ next-part message order c.in_ok-order.ensures from n some (omega arith) same in
     let weighed = ap sums_weight next in
@@ -78,7 +80,9 @@ loop-from-preserved c =
     let some = c.run_length.ensures.some in
     let within = c.run_length.ensures.within in
     let size = ap (length {A = ℕ}) rest in
-    let same = subst (λ (xs : List ℕ). All (λ at. ids_at message at ≡ ids_at message (get_or xs 0 0)) (take n xs)) rest c.run_length.ensures.same in
+    let alike = subst (AreAlike message) (sym c.as_slice-stacks.ensures.value) c.in_ok-numbers.ensures in
+    let known_rest = subst (All (λ at. at < length message.samples)) (sym rest) (known-rest message order c.in_ok-order.ensures from n) in
+    let same = subst (λ (xs : List ℕ). All (λ at. stack_at message at ≡ stack_at message (get_or xs 0 0)) (take n xs)) rest (c.run_length.ensures.same message alike known_rest) in
     let next : run_added message (take (from + n - from) (drop from c.deref-in-loop-from.result.now)) (first_stack message (take (from + n - from) (drop from c.deref-in-loop-from.result.now))) c.deref_mut.result.now ≡ sums_over message (take (from + n) order) =
     (λ k. run_added message (part k) (first_stack message (part k)) (known k)) ∙ next-part message order c.in_ok-order.ensures from n some (omega arith) same in
     let new = c.in_ok-add_run.ensures.1 ∙ next in

@@ -1,4 +1,7 @@
-use Rattle.std.proofs.Common.{refl, ◌∙◌, arith}
+use Rattle.std.proofs.Common.{ℕ, List, [], ◌∷◌, Vec, Global, refl, ap, ◌∙◌, arith}
+use Rattle.std.specs.Prelude.{map}
+use Rattle.std.proofs.lemmas.List.{map-append}
+use Rattle.pprof_codec.specs.Tables.{frame_numbered}
 use Rattle.pprof_message.specs.Pprof.{Location}
 use Rattle.pprof_codec.specs.Frames.{location_frames}
 use Rattle.pprof_codec.specs.Checks.{faults_of_location, location_faults}
@@ -26,6 +29,12 @@ loop-number-preserved c = record {
       c.in_ok-push-2.ensures.items
       ∙ read-push (location_frames c.args.message.now) c.loop-number.frames.items _ c.args.message.now.locations c.loop-number.number _ c.location-location.ensures
       c.loop-number.invariant.framed (c.in_ok-frames_of.ensures c.args.message.now c.requires.functions);
+  numbered =
+      let view : Vec ℕ Global → List (List ℕ) = λ one. map (frame_numbered c.args.message.now) one.items in
+      ap (map view) c.in_ok-push-3.ensures.items
+      ∙ map-append view c.loop-number.numbers.items (c.in_ok-numbers_of.field-0 ∷ [])
+      ∙ read-push (location_frames c.args.message.now) (map view c.loop-number.numbers.items) _ c.args.message.now.locations c.loop-number.number _ c.location-location.ensures
+      c.loop-number.invariant.numbered c.in_ok-numbers_of.ensures;
   judged =
       member-read_kept (λ (l : Location). l.id) (faults_of_location c.args.message.now) c.args.message.now.locations c.loop-number.ids c.loop-number.number _ c.location_fault.result
       c.location-location.ensures c.loop-number.invariant.known c.loop-number.invariant.judged (c.location_fault.ensures c.args.message.now c.requires.functions) c.in_default.is;
@@ -35,8 +44,11 @@ pub returns : goal.returns
 unfolding location_faults
 returns c = (
   each-all (own_faults (λ (l : Location). l.id) (faults_of_location c.args.message.now) c.args.message.now.locations) c.args.message.now.locations c.loop-number.number (omega arith) c.loop-number.invariant.judged,
-  record {
-    known = c.loop-number.invariant.known ∙ shown-all (λ (l : Location). l.id) c.args.message.now.locations c.loop-number.number (omega arith);
-    framed = c.loop-number.invariant.framed ∙ shown-all (location_frames c.args.message.now) c.args.message.now.locations c.loop-number.number (omega arith);
-  },
+  (
+    record {
+      known = c.loop-number.invariant.known ∙ shown-all (λ (l : Location). l.id) c.args.message.now.locations c.loop-number.number (omega arith);
+      framed = c.loop-number.invariant.framed ∙ shown-all (location_frames c.args.message.now) c.args.message.now.locations c.loop-number.number (omega arith);
+    },
+    c.loop-number.invariant.numbered ∙ shown-all (location_frames c.args.message.now) c.args.message.now.locations c.loop-number.number (omega arith),
+  ),
 )

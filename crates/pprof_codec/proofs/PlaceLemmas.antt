@@ -1,6 +1,6 @@
 -- Frames by their numbers.
-use Rattle.std.proofs.Common.{◌≡◌, ℕ, suc, Bool, cond, ◌+◌, ◌<◌, List, [], ◌∷◌, ◌++◌, length, get_or, Option, Some, None, Result, Ok, Err, refl, sym, ap, ◌∙◌, arith}
-use Rattle.std.specs.Prelude.{◌==◌, false, true, map, reverse, option_map, option_and_then, slice_get, unwrap_or, IfOk, Vec}
+use Rattle.std.proofs.Common.{◌≡◌, ℕ, suc, Bool, cond, ◌+◌, ◌<◌, List, [], ◌∷◌, ◌++◌, length, get_or, Option, Some, None, Result, Ok, Err, refl, sym, ap, ◌∙◌, subst, arith}
+use Rattle.std.specs.Prelude.{◌==◌, false, true, map, reverse, option_map, option_and_then, slice_get, unwrap_or, IfOk, MatchResult, Vec}
 use Rattle.std.proofs.lemmas.List.{get_or_append_left, get_or-append-add, get_or-map, length-map}
 use Rattle.std.specs.List.{flat_map}
 use Rattle.std.proofs.lemmas.List.FromFn.{get_or-range_with_len, length-range_with_len}
@@ -11,11 +11,14 @@ use Rattle.std.specs.declared.cmp.Ordering.{Ordering}
 use Rattle.std.specs.Cmp.Lexicographic.{bytes_decides, slice_cmp, texts_ties}
 use Rattle.std.proofs.lemmas.Option.{slice_get-map}
 use Rattle.std.proofs.Math.Seq.{get_or-append_seam}
+use Rattle.profile_model.specs.CleanedTexts.{cleaned}
+use Rattle.profile_model.specs.Kinds.{IsPart}
+use Rattle.profile_model.specs.Stacks.{name_cmp}
 use Rattle.pprof_message.specs.declared.lists.Function.{Function}
 use Rattle.pprof_message.specs.Pprof.{Location, Pprof, Sample}
 use Rattle.pprof_codec.specs.Members.{text_at}
 use Rattle.pprof_codec.specs.Frames.{address_frame, frames_of, function_frame, line_frame, location_frames, frames_at, root_first, stack_of, unknown_frame}
-use Rattle.pprof_codec.specs.Tables.{AreAlike, AreFirsts, AreFunctions, AreLocations, AreNumberedFrames, found_in, frame_numbered, number_of, numbered_frames, numbers_of, stack_at}
+use Rattle.pprof_codec.specs.Tables.{AreAlike, AreFirsts, AreFunctions, AreLocations, AreNumberedFrames, AreParts, found_in, frame_numbered, number_of, numbered_frames, numbers_of, stack_at}
 use Rattle.pprof_codec.proofs.FaultLemmas.{get-some}
 use Rattle.pprof_codec.proofs.MemberLemmas.{function-named, function-system_named, function-unnamed}
 use Rattle.pprof_codec.proofs.LineLemmas.{lines-framed}
@@ -188,3 +191,27 @@ pub alone-turned : {E Z : Type 0} (pprof : Pprof) (sample : Sample) (made : Resu
     → IfOk made (λ numbers. reverse (map (frame_numbered pprof) numbers.items) ≡ stack_of pprof sample)
 alone-turned pprof sample (Err e) none is = tt
 alone-turned pprof sample (Ok numbers) none is = none-turned pprof sample (map (frame_numbered pprof) numbers.items) none is
+
+-- ---- the parts of types
+
+module _ (key part : List ℕ) (old new : List (List ℕ × List ℕ)) where
+  pub parts-more : ((q : List ℕ) → lookup (is_at (name_cmp q)) new ≡ cond (is_at (name_cmp key) q) (Some part) (lookup (is_at (name_cmp q)) old))
+      → AreParts old → part ≡ cleaned key → IsPart part → AreParts new
+  parts-more step before own is_part q other is = by (is_at (name_cmp key) q) refl (sym (step q) ∙ is)
+    where
+      by : (b : Bool) → is_at (name_cmp key) q ≡ b → cond b (Some part) (lookup (is_at (name_cmp q)) old) ≡ Some other
+          → (other ≡ cleaned q) × IsPart other
+      by true same held =
+          let e : part ≡ other = cc in
+          let texts : key ≡ q = (bytes_decides key q).0 (texts_ties key q ∙ same) in
+          (sym e ∙ own ∙ ap cleaned texts, subst IsPart e is_part)
+      by false none held = before q other held
+
+pub part-copied : {E : Type 0} (Q : E → Type 0) (made : Result (List ℕ) E) (part text other : List ℕ) → MatchResult made (λ copy. copy ≡ part) Q
+    → part ≡ cleaned text → text ≡ other → IfOk made (λ name. name ≡ cleaned other)
+part-copied Q (Err e) part text other copied is same = tt
+part-copied Q (Ok name) part text other copied is same = copied ∙ is ∙ ap cleaned same
+
+pub part-kept : {E : Type 0} (Q : E → Type 0) (made : Result (List ℕ) E) (part : List ℕ) → MatchResult made (λ copy. copy ≡ part) Q → IsPart part → IfOk made IsPart
+part-kept Q (Err e) part copied is = tt
+part-kept Q (Ok name) part copied is = subst IsPart (sym copied) is

@@ -7,6 +7,9 @@ use Rattle.std.specs.Ordering.{nat_cmp}
 use Rattle.std.specs.Cmp.Lexicographic.{slice_cmp}
 use Rattle.faults.specs.Answers.{IfFault}
 use Rattle.faults.specs.declared.refused.Refused.{Refused}
+use Rattle.profile_model.specs.CleanedTexts.{cleaned}
+use Rattle.profile_model.specs.Kinds.{IsPart}
+use Rattle.profile_model.specs.Stacks.{name_cmp}
 use Rattle.profile_model.specs.Sums as sums
 use Rattle.profile_model.specs.Sums.{sums_of, with_added}
 use Rattle.pprof_message.specs.Pprof.{Pprof}
@@ -63,6 +66,10 @@ AreNumberedFrames pprof numbers = map (λ one. map (frame_numbered pprof) one.it
 -- what the member with this id has
 abbrev pub found_in : {X : Type 0} → List ℕ → List X → ℕ → Option X
 found_in ids values id = option_and_then (slice_get values) (number_of ids id)
+
+-- texts and what each is as a part of a type
+abbrev pub AreParts : List (List ℕ × List ℕ) → Type 0
+AreParts parts = (text part : List ℕ) → lookup (is_at (name_cmp text)) parts ≡ Some part → (part ≡ cleaned text) × IsPart part
 
 -- there is too little room for a weight
 abbrev pub IsShort : ℕ → ℕ → PprofFault → Type 0

@@ -12,9 +12,9 @@ ghost use Rattle.pprof_codec.specs.Checks.{weight_faults};
 ghost use Rattle.pprof_codec.specs.Tables.{Judges, TakesRoom};
 
 use crate::judged::Judged;
+use crate::parts::cleaned_text;
 use crate::room::take_room;
 use crate::sums::build_sums;
-use crate::texts::text_at;
 use crate::{Base, PprofFault};
 use faults::Refused;
 use pprof_message::ValueType;
@@ -86,22 +86,11 @@ fn kind_of(
     let period = judged.message.period_type();
     Ok(ProfileType {
         name: base.name.clone()?,
-        sample_type: cleaned_text(alloc, &judged.names, kind.kind)?,
-        sample_unit: cleaned_text(alloc, &judged.names, kind.unit)?,
-        period_type: cleaned_text(alloc, &judged.names, period.kind)?,
-        period_unit: cleaned_text(alloc, &judged.names, period.unit)?,
+        sample_type: cleaned_text(alloc, &judged.names, &judged.parts, kind.kind)?,
+        sample_unit: cleaned_text(alloc, &judged.names, &judged.parts, kind.unit)?,
+        period_type: cleaned_text(alloc, &judged.names, &judged.parts, period.kind)?,
+        period_unit: cleaned_text(alloc, &judged.names, &judged.parts, period.unit)?,
     })
-}
-
-fn cleaned_text(alloc: Global, names: &[Name], place: i64) -> Result<Name, AllocError>
-    ensures value { IfOk result (λ text. text ≡ cleaned (text_at names.now place)) }
-    ensures part { IfOk result IsPart }
-{
-    let text = match text_at(names, place) {
-        Some(text) => text.as_str(),
-        None => "",
-    };
-    Name::cleaned(alloc, text)
 }
 
 // Nanoseconds as milliseconds, where there are any.

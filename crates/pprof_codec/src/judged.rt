@@ -7,11 +7,12 @@ ghost use Rattle.profile_model.specs.Sums.{total_of};
 ghost use Rattle.pprof_codec.specs.Frames.{stack_of, unknown_frame};
 ghost use Rattle.pprof_codec.specs.Profiles.{samples_of};
 ghost use Rattle.pprof_codec.specs.Checks.{first_of, judged_faults, faults_to_types, type_faults, place_faults, value_faults};
-ghost use Rattle.pprof_codec.specs.Tables.{AreLocations, AreNumberedFrames, Judges};
+ghost use Rattle.pprof_codec.specs.Tables.{AreLocations, AreNumberedFrames, AreParts, Judges};
 
 use crate::PprofFault;
 use crate::functions::{Functions, UNKNOWN_FRAME};
 use crate::locations::Locations;
+use crate::parts::read_parts;
 use crate::samples::first_sample_fault;
 use crate::texts::{first_text_fault, period_type_fault, read_names, sample_type_fault};
 use crate::totals::first_total_fault;
@@ -19,6 +20,7 @@ use faults::Refused;
 use pprof_message::PprofMessage;
 use profile_model::Name;
 use std::alloc::Global;
+use std::collections::BTreeMap;
 
 // Each sample has a stack, and each sample type's values have a sum.
 #[derive(Drop)]
@@ -28,6 +30,9 @@ pub(crate) struct Judged<'a> {
     pub(crate) names: Vec<Name>,
     pub(crate) unknown: Name,
     pub(crate) locations: Locations,
+    // The parts of the types, by their texts.
+    pub(crate) parts: BTreeMap<Name, Name>,
+    ghost cleaned: { AreParts parts.entries },
     ghost texts: { names.items ≡ message.texts },
     ghost named: { unknown ≡ unknown_frame },
     ghost located: { AreLocations message locations.ids locations.frames.items },
@@ -49,11 +54,13 @@ pub(crate) fn judge(
     if let Some(fault) = first_value_fault(&message, &names, &locations) {
         return Err(Refused::Fault(fault));
     }
+    let parts = read_parts(alloc, &message, &names)?;
     Ok(Judged {
         message,
         names,
         unknown,
         locations,
+        parts,
     })
 }
 

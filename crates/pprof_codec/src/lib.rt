@@ -10,6 +10,7 @@ mod judged;
 mod laws;
 mod locations;
 mod numbers;
+mod parts;
 mod reader;
 mod room;
 mod runs;

@@ -238,6 +238,37 @@ fn equal_stacks_are_summed_and_zeros_dropped(rt: HostRuntime) -> Result<(), Fail
 }
 
 #[test]
+fn a_stack_spelled_by_other_locations_is_the_same(rt: HostRuntime) -> Result<(), Fail> {
+    // Location 1 has the lines leaf and main. Locations 2 and 3 have one of them each, 3 by a function of its own.
+    let samples =
+        b"\x12\x06\x0A\x01\x01\x12\x01\x07\x12\x07\x0A\x02\x02\x03\x12\x01\x05\x12\x07\x0A\x02\x03\x02\x12\x01\x01";
+    let locations =
+        b"\x22\x06\x08\x02\x22\x02\x08\x01\x22\x06\x08\x03\x22\x02\x08\x09\x2A\x04\x08\x09\x10\x04";
+    let text = told(
+        rt.alloc(),
+        &[TYPE, samples, LOCATION, locations, FUNCTIONS, TEXTS],
+    )?;
+    assert_eq!(rt;
+        text.as_str(),
+        "service_name=app process_cpu:samples:count:: 1700000000000\nleaf;main 1\nmain;leaf 12\n"
+    );
+    Ok(())
+}
+
+#[test]
+fn frames_that_differ_in_their_last_byte_are_two(rt: HostRuntime) -> Result<(), Fail> {
+    let samples = b"\x12\x06\x0A\x01\x01\x12\x01\x07\x12\x06\x0A\x01\x02\x12\x01\x05";
+    let locations = b"\x22\x06\x08\x01\x22\x02\x08\x01\x22\x06\x08\x02\x22\x02\x08\x02";
+    let texts = b"\x32\x00\x32\x07samples\x32\x05count\x32\x04leaf\x32\x04leag";
+    let text = told(rt.alloc(), &[TYPE, samples, locations, FUNCTIONS, texts])?;
+    assert_eq!(rt;
+        text.as_str(),
+        "service_name=app process_cpu:samples:count:: 1700000000000\nleaf 7\nleag 5\n"
+    );
+    Ok(())
+}
+
+#[test]
 fn a_sample_type_without_stacks_has_its_profile(rt: HostRuntime) -> Result<(), Fail> {
     let bytes = joined(rt.alloc(), &[TYPE, LOCATION, FUNCTIONS, TEXTS])?;
     assert_eq!(rt; bytes.len(), 60);

@@ -37,6 +37,7 @@ pub invariant_of-result : goal.invariant_of-result
 invariant_of-result c =
     let values : value_faults c.args.message ≡ [] = first-none _ (sym c.first_value_fault.ensures ∙ c.in_default.is) in
     record {
+      cleaned = c.in_ok-parts.ensures;
       texts = c.in_ok-names.ensures.1;
       named = c.in_ok-unknown.ensures.ok;
       located = c.in_ok-locations.ensures.1.0;

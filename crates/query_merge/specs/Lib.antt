@@ -1,0 +1,5 @@
+pub mod Rows
+pub mod Spans
+pub mod TypeLists
+pub mod Asked
+pub mod Merging

@@ -1,4 +1,11 @@
 pub mod SaidLemmas
 pub mod NumberLemmas
-pub mod PushLemmas
+pub mod TurnLemmas
+pub mod WalkLemmas
+pub mod LoopLemmas
+pub mod KindLemmas
+pub mod FoundLemmas
+pub mod ListLemmas
+pub mod SeriesLemmas
+pub mod KeptLemmas
 pub mod ExclusionLemmas

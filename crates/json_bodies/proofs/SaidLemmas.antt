@@ -26,7 +26,7 @@ joined_more None rest longer found b later e = absurd (none-some _ e)
 joined_more (Some c) None longer found b later e = absurd (none-some _ e)
 joined_more (Some c) (Some bs) longer found b later e = rw (later bs refl, ← (same_Some _ _ e))
 
-each_said_push : {A B : Type 0} (says : A → Option B) (xs : List A) (x : A) (b : B) (found : List B)
+pub each_said_push : {A B : Type 0} (says : A → Option B) (xs : List A) (x : A) (b : B) (found : List B)
     → each_said says xs ≡ Some found → says x ≡ Some b → each_said says (xs ++ x ∷ []) ≡ Some (found ++ b ∷ [])
 each_said_push says [] x b found e here = rw (here, ← (same_Some _ _ e))
 each_said_push says (y ∷ xs) x b found e here =
@@ -47,7 +47,7 @@ next_silent None rest found n m e later = absurd (none-some _ e)
 next_silent (Some b) None found n m e later = absurd (none-some _ e)
 next_silent (Some b) (Some bs) found n m e later = let same = later bs refl in omega arith
 
-silent_here : {A B : Type 0} (says : A → Option B) (xs ys : List A) (x : A) (found : List B)
+pub silent_here : {A B : Type 0} (says : A → Option B) (xs ys : List A) (x : A) (found : List B)
     → each_said says xs ≡ Some found → says x ≡ None → position_or_len (λ y. is_none (says y)) (xs ++ x ∷ ys) ≡ length xs
 silent_here says [] ys x found e here = rw here
 silent_here says (y ∷ xs) ys x found e here =
@@ -66,7 +66,7 @@ cut_at : {X : Type 0} (xs : List X) (i : ℕ) (x : X) → i < length xs → x �
 cut_at xs i x inside is = sym (take-append-drop i xs) ∙ ap (λ rest. take i xs ++ rest)
     (drop-cons xs i x inside ∙ ap (λ y. y ∷ drop (suc i) xs) (sym is))
 
-first_place : {A : Type 0} (test : A → Bool) (xs : List A) (i : ℕ) → i < length xs → position_or_len test xs ≡ i → position test xs ≡ Some i
+pub first_place : {A : Type 0} (test : A → Bool) (xs : List A) (i : ℕ) → i < length xs → position_or_len test xs ≡ i → position test xs ≡ Some i
 first_place test xs i inside at = rw (at, lt-ltb i (length xs) inside)
 
 -- the first i members say something, and the next doesn't
@@ -83,3 +83,28 @@ silent_at f says xs i x found inside is e here =
     ∙ silent_here says (map f (take i xs)) (map f (drop (suc i) xs)) (f x) found e here
     ∙ length-map (take i xs) f ∙ length-take-le i xs (omega arith) in
     (none, first_place (λ y. is_none (says y)) (map f xs) i (omega (arith, length-map xs f)) place)
+
+joined_stays : {B : Type 0} (first : Option B) (rest longer : Option (List B)) → (rest ≡ None → longer ≡ None) → joined first rest ≡ None
+    → joined first longer ≡ None
+joined_stays None rest longer later e = refl
+joined_stays (Some b) None longer later e = rw (later refl)
+joined_stays (Some b) (Some bs) longer later e = absurd (none-some _ (sym e))
+
+-- a list that says nothing says nothing with more members
+pub each_said_none_before : {A B : Type 0} (says : A → Option B) (xs ys : List A) → each_said says xs ≡ None → each_said says (xs ++ ys) ≡ None
+each_said_none_before says [] ys e = absurd (none-some _ (sym e))
+each_said_none_before says (x ∷ xs) ys e =
+    joined_stays (says x) (each_said says xs) (each_said says (xs ++ ys)) (λ none. each_said_none_before says xs ys none) e
+
+joined_length : {B : Type 0} (first : Option B) (rest : Option (List B)) (found : List B) (n : ℕ) → joined first rest ≡ Some found
+    → ((bs : List B) → rest ≡ Some bs → length bs ≡ n) → length found ≡ suc n
+joined_length None rest found n e later = absurd (none-some _ e)
+joined_length (Some b) None found n e later = absurd (none-some _ e)
+joined_length (Some b) (Some bs) found n e later = ap length (sym (same_Some _ _ e)) ∙ ap suc (later bs refl)
+
+-- as many are said as there are
+pub each_said_length : {A B : Type 0} (says : A → Option B) (xs : List A) (found : List B) → each_said says xs ≡ Some found
+    → length found ≡ length xs
+each_said_length says [] found e = ap length (sym (same_Some _ _ e))
+each_said_length says (x ∷ xs) found e =
+    joined_length (says x) (each_said says xs) found (length xs) e (λ bs is. each_said_length says xs bs is)

@@ -1,4 +1,5 @@
 pub mod Codes
+pub mod Walks
 pub mod Objects
 pub mod Fields
 pub mod FieldFaults
@@ -6,3 +7,7 @@ pub mod Queries
 pub mod Pushes
 pub mod PushRead
 pub mod PushFaults
+pub mod KeptTexts
+pub mod Kept
+pub mod KeptSeries
+pub mod KeptFields

@@ -1,27 +1,18 @@
 // The fields of an object: texts, lists of texts, and numbers of 64 bits.
-ghost use Rattle.std.specs.Prelude.{◌≡◌, map, MatchResult, Some, None, if◌then◌else◌};
-ghost use Rattle.std.specs.Char.{is_ascii_digit};
-ghost use Rattle.std.specs.List.{list_all};
-ghost use Rattle.std.specs.Str.Parse.{digits_value};
+ghost use Rattle.std.specs.Prelude.{◌≡◌, map, MatchResult, Some};
 ghost use Rattle.faults.specs.Answers.{IfFault};
-ghost use Rattle.serde_json.specs.Find.{as_str};
-ghost use Rattle.serde_json.specs.View.{view};
-ghost use Rattle.json_bodies.specs.Fields.{as_number_or_text, each_said, end_of, is_number_text};
+ghost use Rattle.json_bodies.specs.Fields.{end_of};
 ghost use Rattle.json_bodies.specs.FieldFaults.{IsWrongKind};
 
 use crate::JsonObject;
-use crate::values::as_list;
+use crate::texts::Texts;
 use faults::Refused;
-use serde_json::Value;
 use std::alloc::Global;
 use std::error::Error;
 use std::fmt;
 
 /// The last millisecond of the year 9999, the latest end of a window.
 const LATEST_MS: u64 = 253_402_300_799_999;
-
-/// The most digits of a number's text: each number of so many is below 2^64.
-const MAX_DIGITS: usize = 19;
 
 /// Why an object is no query.
 #[derive(Clone, Copy, Debug, PartialEq, Eq)]
@@ -50,102 +41,84 @@ impl From<FieldFault> for Refused<FieldFault> {
     }
 }
 
-impl JsonObject {
+impl JsonObject<'_> {
+    ghost use Rattle.std.specs.Prelude.{codes};
     ghost use Rattle.json_bodies.specs.Fields.{number_in, text_in, texts_in};
 
-    /// The text of field `number`, which is empty where the field is absent.
-    pub(crate) fn text(&self, key: &str, number: u64) -> Result<&str, FieldFault>
+    /// The text `name`, which is field `number`. It is empty where the field is absent.
+    pub(crate) fn name(&self, number: u64) -> Result<&str, FieldFault>
         ensures { MatchResult result
-            (λ text. text_in key.now self.now ≡ Some text.now) (IsWrongKind number (text_in key.now self.now)) }
+            (λ text. text_in (codes "name") self.now ≡ Some text.now)
+            (IsWrongKind number (text_in (codes "name") self.now)) }
     {
-        match self.get(key) {
-            Some(value) => value.as_str().ok_or(FieldFault::WrongKind(number)),
-            None => Ok(""),
+        match &self.fields.name {
+            Some(text) => Ok(text.as_str()),
+            None => Err(FieldFault::WrongKind(number)),
         }
     }
 
-    /// The texts of field `number`, none where the field is absent.
-    pub(crate) fn texts(
+    /// The texts `matchers`, which are field `number`, none where the field is absent.
+    pub(crate) fn matchers(
         &self,
         alloc: Global,
-        key: &str,
         number: u64,
     ) -> Result<Vec<&str>, Refused<FieldFault>>
         ensures { MatchResult result
-            (λ texts. texts_in key.now self.now ≡ Some (map (λ text. text.now) texts.items))
-            (IfFault (IsWrongKind number (texts_in key.now self.now))) }
+            (λ texts. texts_in (codes "matchers") self.now ≡ Some (map (λ text. text.now) texts.items))
+            (IfFault (IsWrongKind number (texts_in (codes "matchers") self.now))) }
     {
-        match self.get(key) {
-            Some(value) => match as_list(value) {
-                Some(values) => texts_of(alloc, values, number),
-                None => Err(Refused::Fault(FieldFault::WrongKind(number))),
-            },
-            None => Ok(Vec::new(alloc)),
-        }
+        slices_of(alloc, &self.fields.matchers, number)
     }
 
-    /// The number of field `number`, 0 where the field is absent.
-    pub(crate) fn number(&self, key: &str, number: u64) -> Result<u64, FieldFault>
+    /// The texts `labelNames`, which are field `number`, none where the field is absent.
+    pub(crate) fn label_names(
+        &self,
+        alloc: Global,
+        number: u64,
+    ) -> Result<Vec<&str>, Refused<FieldFault>>
         ensures { MatchResult result
-            (λ n. number_in key.now self.now ≡ Some n) (IsWrongKind number (number_in key.now self.now)) }
+            (λ texts. texts_in (codes "labelNames") self.now ≡ Some (map (λ text. text.now) texts.items))
+            (IfFault (IsWrongKind number (texts_in (codes "labelNames") self.now))) }
     {
-        match self.get(key) {
-            Some(value) => number_of(value).ok_or(FieldFault::WrongKind(number)),
-            None => Ok(0),
-        }
+        slices_of(alloc, &self.fields.label_names, number)
+    }
+
+    /// The number `start`, which is field `number`. It is 0 where the field is absent.
+    pub(crate) fn start(&self, number: u64) -> Result<u64, FieldFault>
+        ensures { MatchResult result
+            (λ n. number_in (codes "start") self.now ≡ Some n) (IsWrongKind number (number_in (codes "start") self.now)) }
+    {
+        number_or(self.fields.start, number)
+    }
+
+    /// The number `end`, which is field `number`. It is 0 where the field is absent.
+    pub(crate) fn end(&self, number: u64) -> Result<u64, FieldFault>
+        ensures { MatchResult result
+            (λ n. number_in (codes "end") self.now ≡ Some n) (IsWrongKind number (number_in (codes "end") self.now)) }
+    {
+        number_or(self.fields.end, number)
     }
 }
 
-// The texts that the values of field `number` are.
-fn texts_of<'v>(
+// The texts of field `number`.
+fn slices_of<'v>(
     alloc: Global,
-    values: &'v [Value],
+    texts: &'v Option<Texts>,
     number: u64,
 ) -> Result<Vec<&'v str>, Refused<FieldFault>>
     ensures { MatchResult result
-        (λ texts. each_said as_str (map view values.now) ≡ Some (map (λ text. text.now) texts.items))
-        (IfFault (IsWrongKind number (each_said as_str (map view values.now)))) }
+        (λ slices. texts.now ≡ Some (map (λ text. text.now) slices.items)) (IfFault (IsWrongKind number texts.now)) }
 {
-    let mut texts = Vec::with_capacity(alloc, values.len())?;
-    for value in values {
-        match value.as_str() {
-            Some(text) => texts.push(text)?,
-            None => return Err(Refused::Fault(FieldFault::WrongKind(number))),
-        }
-    }
-    Ok(texts)
-}
-
-// A whole number of JSON, or the text of one.
-fn number_of(value: &Value) -> Option<u64>
-    ensures { result ≡ as_number_or_text (view value.now) }
-{
-    match value.as_str() {
-        Some(text) => number_of_text(text),
-        None => value.as_u64(),
+    match texts {
+        Some(texts) => Ok(texts.to_slices(alloc)?),
+        None => Err(Refused::Fault(FieldFault::WrongKind(number))),
     }
 }
 
-fn number_of_text(text: &str) -> Option<u64>
-    ensures { result ≡ (if is_number_text text.now then Some (digits_value 10 text.now) else None) }
+fn number_or(value: Option<u64>, number: u64) -> Result<u64, FieldFault>
+    ensures { MatchResult result (λ n. value ≡ Some n) (IsWrongKind number value) }
 {
-    if is_number_text(text) {
-        text.parse().ok()
-    } else {
-        None
-    }
-}
-
-fn is_number_text(text: &str) -> bool
-    ensures { result ≡ is_number_text text.now }
-{
-    0 < text.len() && text.len() <= MAX_DIGITS && are_digits(text.as_bytes())
-}
-
-fn are_digits(bytes: &[u8]) -> bool
-    ensures { result ≡ list_all is_ascii_digit bytes.now }
-{
-    bytes.iter().all(|byte| byte.is_ascii_digit())
+    value.ok_or(FieldFault::WrongKind(number))
 }
 
 // An end of 0 is the latest, and so is any that is later.

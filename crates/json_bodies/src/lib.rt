@@ -2,13 +2,19 @@
 #![tactic(auto)]
 
 mod fields;
+mod kept;
 mod laws;
+mod leaves;
+mod lists;
+mod number;
 mod object;
 mod push;
 mod queries;
+mod series;
 #[cfg(test)]
 mod tests;
-mod values;
+mod texts;
+mod walk;
 
 pub use fields::FieldFault;
 pub use laws::faults_exclude_bodies;

@@ -1,36 +1,35 @@
 // A body that is a JSON object.
-ghost use Rattle.std.specs.Prelude.{◌≡◌, option_map};
 ghost use Rattle.faults.specs.Answers.{IfAnswered};
-ghost use Rattle.serde_json.specs.Find.{get};
-ghost use Rattle.serde_json.specs.View.{view};
 
+use crate::kept::{Fields, read_fields};
+use crate::walk::Stop;
 use faults::Refused;
-use serde_json::Value;
 use std::alloc::Global;
 use std::error::Error;
 use std::fmt;
 use std::marker::Model;
 
-/// An object in JSON. Of a repeated key the last value stands.
+/// An object in JSON, as its body spells it, with what its fields say. Of a repeated key the last value stands.
 #[derive(Drop)]
-pub struct JsonObject {
-    value: Value,
+pub struct JsonObject<'b> {
+    body: &'b [u8],
+    pub(crate) fields: Fields,
 }
 
-impl Model for JsonObject {
+impl<'b> Model for JsonObject<'b> {
     ghost use Rattle.std.specs.Prelude.{IsSome};
     ghost use Rattle.serde_json.specs.Data.{Data};
     ghost use Rattle.serde_json.specs.Find.{as_object};
-    ghost use Rattle.serde_json.specs.View as json;
     ghost use Rattle.json_bodies.specs.Codes.{data_coded};
+    ghost use Rattle.json_bodies.specs.KeptFields.{AreFields, value_of};
 
     ghost Value = { Data };
 
     ghost coded = { data_coded };
 
-    ghost view = { λ o. json.view o.value };
+    ghost view = { λ o. value_of o.body.now };
 
-    ghost invariant = { λ o. IsSome (as_object (json.view o.value)) };
+    ghost invariant = { λ o. IsSome (as_object (value_of o.body.now)) × AreFields (value_of o.body.now) o.fields };
 }
 
 /// Why a body is no object.
@@ -50,23 +49,28 @@ impl fmt::Display for JsonFault {
 
 impl Error for JsonFault {}
 
-impl JsonObject {
+impl<'b> JsonObject<'b> {
     ghost use Rattle.json_bodies.specs.Objects.{IsReadObject, or_braces};
 
     /// The object that the body is.
-    pub fn read(alloc: Global, body: &[u8]) -> Result<JsonObject, Refused<JsonFault>>
+    pub fn read(alloc: Global, body: &'b [u8]) -> Result<JsonObject<'b>, Refused<JsonFault>>
         ensures read { IfAnswered (IsReadObject body.now) result }
     {
-        match Value::from_slice(alloc, body) {
-            Ok(value) if value.is_object() => Ok(JsonObject { value }),
-            Ok(_) => Err(Refused::Fault(JsonFault::NotObject)),
-            Err(error) if error.is_memory() => Err(Refused::Memory),
-            Err(_) => Err(Refused::Fault(JsonFault::NotObject)),
+        let Ok(text) = str::from_utf8(body) else {
+            return Err(Refused::Fault(JsonFault::NotObject));
+        };
+        match read_fields(alloc, text) {
+            Ok(fields) => Ok(JsonObject { body, fields }),
+            Err(Stop::NoJson) => Err(Refused::Fault(JsonFault::NotObject)),
+            Err(Stop::Memory) => Err(Refused::Memory),
         }
     }
 
     /// The same, where a body without bytes stands for `{}`.
-    pub fn read_or_empty(alloc: Global, body: &[u8]) -> Result<JsonObject, Refused<JsonFault>>
+    pub fn read_or_empty(
+        alloc: Global,
+        body: &'b [u8],
+    ) -> Result<JsonObject<'b>, Refused<JsonFault>>
         ensures read { IfAnswered (IsReadObject (or_braces body.now)) result }
     {
         if body.is_empty() {
@@ -74,11 +78,5 @@ impl JsonObject {
         } else {
             JsonObject::read(alloc, body)
         }
-    }
-
-    pub(crate) fn get(&self, key: &str) -> Option<&Value>
-        ensures { option_map (λ value. view value.now) result ≡ get key.now self.now }
-    {
-        self.value.get(key)
     }
 }

@@ -43,15 +43,15 @@ impl<'v> LabelNamesBody<'v> {
     /// The query of an object: `matchers`, `start` and `end`. An absent list is empty, and an absent number 0.
     pub fn of(
         alloc: Global,
-        object: &'v JsonObject,
+        object: &'v JsonObject<'_>,
     ) -> Result<LabelNamesBody<'v>, Refused<FieldFault>>
         ensures read { MatchResult result
             (IsLabelNames object.now) (IfFault (IsFirstWrong (label_names_kinds object.now))) }
     {
         Ok(LabelNamesBody {
-            matchers: object.texts(alloc, "matchers", 0)?,
-            start_ms: object.number("start", 1)?,
-            end_ms: end_of(object.number("end", 2)?),
+            matchers: object.matchers(alloc, 0)?,
+            start_ms: object.start(1)?,
+            end_ms: end_of(object.end(2)?),
         })
     }
 }
@@ -63,16 +63,16 @@ impl<'v> LabelValuesBody<'v> {
     /// The query of an object: `name`, `matchers`, `start` and `end`. An absent name is empty.
     pub fn of(
         alloc: Global,
-        object: &'v JsonObject,
+        object: &'v JsonObject<'_>,
     ) -> Result<LabelValuesBody<'v>, Refused<FieldFault>>
         ensures read { MatchResult result
             (IsLabelValues object.now) (IfFault (IsFirstWrong (label_values_kinds object.now))) }
     {
         Ok(LabelValuesBody {
-            name: object.text("name", 0)?,
-            matchers: object.texts(alloc, "matchers", 1)?,
-            start_ms: object.number("start", 2)?,
-            end_ms: end_of(object.number("end", 3)?),
+            name: object.name(0)?,
+            matchers: object.matchers(alloc, 1)?,
+            start_ms: object.start(2)?,
+            end_ms: end_of(object.end(3)?),
         })
     }
 }
@@ -82,14 +82,17 @@ impl<'v> SeriesBody<'v> {
     ghost use Rattle.json_bodies.specs.Queries.{IsSeries, series_kinds};
 
     /// The query of an object: `matchers`, `labelNames`, `start` and `end`.
-    pub fn of(alloc: Global, object: &'v JsonObject) -> Result<SeriesBody<'v>, Refused<FieldFault>>
+    pub fn of(
+        alloc: Global,
+        object: &'v JsonObject<'_>,
+    ) -> Result<SeriesBody<'v>, Refused<FieldFault>>
         ensures read { MatchResult result (IsSeries object.now) (IfFault (IsFirstWrong (series_kinds object.now))) }
     {
         Ok(SeriesBody {
-            matchers: object.texts(alloc, "matchers", 0)?,
-            label_names: object.texts(alloc, "labelNames", 1)?,
-            start_ms: object.number("start", 2)?,
-            end_ms: end_of(object.number("end", 3)?),
+            matchers: object.matchers(alloc, 0)?,
+            label_names: object.label_names(alloc, 1)?,
+            start_ms: object.start(2)?,
+            end_ms: end_of(object.end(3)?),
         })
     }
 }

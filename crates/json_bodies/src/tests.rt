@@ -21,8 +21,10 @@ fn fault_of_body_or_none(alloc: Global, body: &[u8]) -> Option<Refused<JsonFault
 fn only_an_object_is_a_body(rt: HostRuntime) -> Result<(), Fail> {
     let alloc = rt.alloc();
     assert!(rt; fault_of_body(alloc, b" {\"a\": 1.5e3, \"b\": [null]}").is_none());
-    let refused: [&[u8]; 7] = [
+    let refused: [&[u8]; 9] = [
         b"",
+        b"{\"a\":[{\"b\":1e400}]}",
+        b"{\"a\":[1,]}",
         b"[]",
         b"null",
         b"\"{}\"",
@@ -40,7 +42,28 @@ fn only_an_object_is_a_body(rt: HostRuntime) -> Result<(), Fail> {
     Ok(())
 }
 
-fn object(alloc: Global, text: &str) -> Result<JsonObject, Refused<JsonFault>> {
+// An object whose one member nests arrays this deep, and whether it is taken.
+fn nests(alloc: Global, depth: usize) -> Result<bool, Fail> {
+    let mut text = String::from_str(alloc, "{\"a\":")?;
+    for _ in 0..depth {
+        text.push_str("[")?;
+    }
+    for _ in 0..depth {
+        text.push_str("]")?;
+    }
+    text.push_str("}")?;
+    Ok(JsonObject::read(alloc, text.as_bytes()).is_ok())
+}
+
+#[test]
+fn values_nest_as_deep_as_serde_json_reads_them(rt: HostRuntime) -> Result<(), Fail> {
+    let alloc = rt.alloc();
+    assert!(rt; nests(alloc, 126)?);
+    assert!(rt; !nests(alloc, 127)?);
+    Ok(())
+}
+
+fn object(alloc: Global, text: &str) -> Result<JsonObject<'_>, Refused<JsonFault>> {
     JsonObject::read_or_empty(alloc, text.as_bytes())
 }
 
@@ -67,6 +90,9 @@ fn a_query_of_names_has_matchers_and_a_window(rt: HostRuntime) -> Result<(), Fai
         "{\"end\":\"0020\",\"matchers\":[\"{a=\\\"b\\\"}\",\"{}\"],\"other\":null,\"start\":10}";
     assert!(rt; asks_names(alloc, text, &["{a=\"b\"}", "{}"], 10, 20)?);
     assert!(rt; asks_names(alloc, "", &[], 0, LATEST)?);
+    let repeated =
+        "{\"start\":null,\"\\u0073tart\":5,\"matchers\":[\"a\"],\"matchers\":[],\"end\":1,\"end\":7}";
+    assert!(rt; asks_names(alloc, repeated, &[], 5, 7)?);
     Ok(())
 }
 
@@ -235,6 +261,9 @@ fn a_push_has_series_of_labels_and_samples(rt: HostRuntime) -> Result<(), Fail> 
     ];
     assert!(rt; pushes(alloc, text, &series)?);
     assert!(rt; pushes(alloc, "{}", &[])?);
+    let repeated =
+        "{\"series\":7,\"series\":[{\"labels\":0,\"samples\":[],\"labels\":[{\"name\":\"a\",\"value\":\"\\n\",\"name\":\"b\"}]}]}";
+    assert!(rt; pushes(alloc, repeated, &[(&[("b", "\n")], &[])])?);
     Ok(())
 }
 

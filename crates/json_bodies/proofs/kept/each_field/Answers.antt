@@ -1,0 +1,32 @@
+use Rattle.std.proofs.Common.{◌≡◌, Some, None, arith}
+use Rattle.json.specs.Json.{read_key}
+use Rattle.json_bodies.proofs.ListLemmas.{stop_so}
+use Rattle.json_bodies.proofs.LoopLemmas.{all_members, member_shorter, no_key_follows, no_value_follows, one_member_more}
+use Rattle.json_bodies.proofs.kept.each_field.Goals as goal
+
+pub returns-in_err-key : goal.returns-in_err-key
+returns-in_err-key c =
+    let none = no_key_follows _ 126 c.args.reader.now c.members.reader c.members.invariant c.in_err-key.ensures.value in
+    grind (arith, none)
+
+pub returns-in_err-fields : goal.returns-in_err-fields
+returns-in_err-fields c =
+    let named : read_key c.members.reader ≡ Some (Some c.in-Some.key.now, c.next_key.new.self) = grind arith in
+    let none = stop_so _ _ _ (λ e. no_value_follows _ 126 c.in-Some.key.now c.args.reader.now c.members.reader c.next_key.new.self c.members.invariant named e) c.in_err-fields.ensures in
+    grind (arith, none)
+
+pub members-smaller : goal.members-smaller
+members-smaller c =
+    let named : read_key c.members.reader ≡ Some (Some c.in-Some.key.now, c.next_key.new.self) = grind arith in
+    member_shorter _ 126 c.in-Some.key.now c.members.reader c.next_key.new.self c.with_field.new.reader named c.in_ok-fields.ensures
+
+pub members-preserved : goal.members-preserved
+members-preserved c =
+    let named : read_key c.members.reader ≡ Some (Some c.in-Some.key.now, c.next_key.new.self) = grind arith in
+    one_member_more _ _ 126 c.in-Some.key.now c.args.reader.now c.members.reader c.next_key.new.self c.with_field.new.reader
+    c.members.invariant named c.in_ok-fields.ensures
+
+pub returns : goal.returns
+returns c =
+    let end : read_key c.members.reader ≡ Some (None, c.next_key.new.self) = grind arith in
+    all_members _ 126 c.args.reader.now c.members.reader c.next_key.new.self c.members.invariant end

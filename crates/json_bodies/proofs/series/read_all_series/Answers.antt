@@ -1,0 +1,29 @@
+use Rattle.std.proofs.Common.{◌-◌, Err, refl, sym, subst, ap, ◌∙◌, arith}
+use Rattle.json.specs.Reads.{token_of}
+use Rattle.json_bodies.specs.Fields.{as_list}
+use Rattle.json_bodies.specs.KeptSeries.{IsKeptPush}
+use Rattle.json_bodies.specs.Walks.{valued}
+use Rattle.json_bodies.specs.declared.push.ShapeFault.TheVariants.{Wrong}
+use Rattle.json_bodies.proofs.FoundLemmas.{items_so}
+use Rattle.json_bodies.proofs.KindLemmas.{no_array, no_array_read, no_list, reads_array, reads_other}
+use Rattle.json_bodies.proofs.ListLemmas.{stop_so}
+use Rattle.json_bodies.proofs.SeriesLemmas.{kept_push}
+use Rattle.json_bodies.proofs.series.read_all_series.Goals as goal
+
+pub returns-in_err-all : goal.returns-in_err-all
+returns-in_err-all c =
+    let none = stop_so _ _ _ (λ e. ap (valued c.args.depth) c.in_ok-token.ensures
+    ∙ no_array_read c.args.depth (token_of c.in_ok-token.token) c.first.new.reader c.if-opens_array.ensures (omega arith) e) c.in_err-all.ensures in
+    grind (arith, none)
+
+pub returns-in_ok-all : goal.returns-in_ok-all
+returns-in_ok-all c =
+    rw c.in_ok-token.ensures (reads_array (λ d. IsKeptPush (as_list d) c.in_ok-all.all) c.args.depth (token_of c.in_ok-token.token) c.first.new.reader c.each_series.new.reader
+    c.if-opens_array.ensures (omega arith)
+    (items_so _ _ (c.args.depth - 1) c.first.new.reader c.each_series.new.reader
+    (λ ds said d list. subst (λ list. IsKeptPush list c.in_ok-all.all) (sym list) (kept_push ds c.in_ok-all.all said)) c.in_ok-all.ensures))
+
+pub returns-in_ok-skip_rest : goal.returns-in_ok-skip_rest
+returns-in_ok-skip_rest c =
+    rw c.in_ok-token.ensures (reads_other (λ d. IsKeptPush (as_list d) (Err (Wrong 0 0))) c.args.depth (token_of c.in_ok-token.token) c.first.new.reader c.skip_rest.new.reader c.in_ok-skip_rest.ensures
+    (λ d kind. subst (λ list. IsKeptPush list (Err (Wrong 0 0))) (sym (no_list d (no_array _ d kind c.if-opens_array.ensures))) (refl, refl)))

@@ -12,6 +12,12 @@ use Rattle.regex_syntax.specs.declared.error.ErrorKind.TheVariants.{OutOfMemory}
 use Rattle.regex_syntax.specs.Grammar.{Names, group_count, read}
 use Rattle.regex_syntax.specs.Brackets.{Nested}
 use Rattle.regex_syntax.specs.Verdict.{Reads, Refuses}
+use Rattle.regex_syntax.specs.declared.Config.{Config}
+use Rattle.faults.specs.Answers.{IfFault}
+use Rattle.faults.specs.declared.refused.Refused.{Refused}
+use Rattle.faults.specs.declared.refused.Refused.TheVariants.{Fault, Memory}
+use Rattle.selector.specs.declared.pattern.PatternFault.{PatternFault}
+use Rattle.selector.specs.declared.pattern.PatternFault.TheVariants.{Syntax}
 use Rattle.selector.specs.Patterns.{anchored, finds_read, IsReadable, IsUnreadable}
 use Rattle.selector.specs.Stored.{IsBuiltFrom, IsFoundAs}
 
@@ -41,3 +47,10 @@ found_as pattern regex built value bytes = found_read (anchored pattern) regex v
 pub readable : (text : List ℕ) (regex : Regex) → IsBuiltFrom text regex → IsReadable text
 readable text regex built =
     subst IsReadable built.source (subst (λ config. IsPattern config (regex_source regex)) built.config (_, _, built.reads))
+
+-- the parser's refusal, where it isn't want of memory
+pub unreadable_alone : (config : Config) (text : List ℕ) (kind : ErrorKind) (refused : Refused PatternFault) → config ≡ default_config → Refuses config text kind
+    → IfFault (λ fault. (fault ≡ Syntax) × (kind ≢ OutOfMemory)) refused → IfFault (λ fault. (fault ≡ Syntax) × IsUnreadable text) refused
+unreadable_alone config text kind (Fault fault) same refuses told =
+    (told.0, no_pattern text kind (subst (λ other. Refuses other text kind) same refuses) told.1)
+unreadable_alone config text kind Memory same refuses told = tt

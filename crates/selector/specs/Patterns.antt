@@ -36,8 +36,8 @@ pub record IsWellFormed (pattern : List ℕ) : Type 0 where
 abbrev pub IsBadSyntax : List ℕ → Type 0
 IsBadSyntax pattern = IsUnreadable pattern ⊎ (IsReadable pattern × IsUnreadable (anchored pattern))
 
--- Which patterns of right syntax regex builds, both alone and between their anchors, and which are too large for it,
--- it leaves open. So that is an argument, `built`, which says it of each pattern.
+-- Which patterns of right syntax regex builds between their anchors, within the limit on the size of one, it leaves
+-- open. So that is an argument, `built`, which says it of each pattern.
 
 -- a pattern that regex builds
 abbrev pub IsBuilt : (List ℕ → Bool) → List ℕ → Type 0

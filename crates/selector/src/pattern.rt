@@ -1,14 +1,24 @@
 // The pattern of a matcher.
 ghost use Rattle.std.specs.Prelude.{◌≡◌, ◌≢◌, MatchResult, IfOk, IfErr, OnOk, string_bytes};
-ghost use Rattle.selector.specs.Patterns.{anchored, finds, IsReadable, IsWellFormed};
+ghost use Rattle.selector.specs.Patterns.{anchored, finds, IsReadable, IsUnreadable, IsWellFormed};
 ghost use Rattle.selector.specs.Stored.{IsFoundAs, IsBuiltFrom, IsRefusalOf, IsRefused};
 ghost use Rattle.selector.specs.Placed.{fault_of_matcher};
 ghost use Rattle.faults.specs.Answers.{IfFault};
+ghost use Rattle.regex.specs.Patterns.{default_config};
+ghost use Rattle.regex.specs.Sources.{IsRefusal};
+ghost use Rattle.regex.specs.Failures.{IsRightKind};
+ghost use Rattle.regex.specs.declared.error.Error.TheVariants as Error;
+ghost use Rattle.regex_syntax.specs.declared.error.ErrorKind.TheVariants as ErrorKind;
 
 use crate::SelectorFault;
 use faults::Refused;
-use regex::Regex;
+use regex::{Regex, RegexBuilder};
+use regex_syntax::{Config, ErrorKind};
 use std::alloc::{AllocError, Global};
+
+/// The most bytes of what is built of a pattern, about. It takes some three times as much memory together with what
+/// stands beside it, and a millisecond.
+const MAX_PATTERN_SIZE: usize = 1 << 20;
 
 // A pattern P, and what `regex` built of `\A(?:P)\z`.
 #[derive(Drop)]
@@ -38,20 +48,16 @@ impl PatternFault {
 }
 
 impl Pattern {
-    // The pattern has to be one by itself too: `a)(?:b` is one only between the anchors. What is too large by itself
-    // may still be none between them.
+    // The pattern has to be one by itself too: `a)(?:b` is one only between the anchors. By itself it is parsed alone,
+    // since what is built is searched between them.
     pub(crate) fn build(alloc: Global, text: String) -> Result<Pattern, Refused<PatternFault>>
         ensures { MatchResult result
             (λ pattern. (string_bytes pattern.text ≡ string_bytes text) × IsWellFormed (string_bytes text))
             (IfFault (IsRefused (string_bytes text))) }
     {
-        let fits = fits(alloc, text.as_str())?;
+        parse_alone(alloc, text.as_str())?;
         let regex = build_anchored(alloc, text.as_str())?;
-        if fits {
-            Ok(Pattern { text, regex })
-        } else {
-            Err(Refused::Fault(PatternFault::TooLarge))
-        }
+        Ok(Pattern { text, regex })
     }
 
     pub(crate) fn text(&self) -> &str
@@ -78,15 +84,23 @@ fn anchor(alloc: Global, pattern: &str) -> Result<String, AllocError>
     Ok(text)
 }
 
-// Whether the text, which is a pattern, isn't too large.
-fn fits(alloc: Global, text: &str) -> Result<bool, Refused<PatternFault>>
+// Whether the grammar reads the text by itself.
+fn parse_alone(alloc: Global, text: &str) -> Result<(), Refused<PatternFault>>
     ensures ok { OnOk result (IsReadable text.now) }
-    ensures err { IfErr result (IfFault (λ fault. (fault ≢ PatternFault.TooLarge) × IsRefusalOf text.now fault)) }
+    ensures err { IfErr result (IfFault (λ fault. (fault ≡ PatternFault.Syntax) × IsUnreadable text.now)) }
 {
-    match build(alloc, text) {
-        Ok(_) => Ok(true),
-        Err(Refused::Fault(PatternFault::TooLarge)) => Ok(false),
-        Err(refused) => Err(refused),
+    match regex_syntax::parse(alloc, text, &Config::default()) {
+        Ok(_) => Ok(()),
+        Err(error) => Err(of_parser(error)),
+    }
+}
+
+fn of_parser(error: regex_syntax::Error) -> Refused<PatternFault>
+    ensures { IfFault (λ fault. (fault ≡ PatternFault.Syntax) × (error.kind ≢ ErrorKind.OutOfMemory)) result }
+{
+    match error.kind {
+        ErrorKind::OutOfMemory => Refused::Memory,
+        _ => Refused::Fault(PatternFault::Syntax),
     }
 }
 
@@ -103,11 +117,22 @@ fn build(alloc: Global, text: &str) -> Result<Regex, Refused<PatternFault>>
     ensures ok { IfOk result (IsBuiltFrom text.now) }
     ensures err { IfErr result (IfFault (IsRefusalOf text.now)) }
 {
-    match Regex::new(alloc, text) {
+    match compile(alloc, text) {
         Ok(regex) => Ok(regex),
         Err(regex::Error::Syntax(_)) => Err(Refused::Fault(PatternFault::Syntax)),
         Err(regex::Error::CompiledTooBig) => Err(Refused::Fault(PatternFault::TooLarge)),
         Err(regex::Error::Internal) => unreachable!(),
         Err(regex::Error::OutOfMemory) => Err(Refused::Memory),
     }
+}
+
+fn compile(alloc: Global, text: &str) -> Result<Regex, regex::Error>
+    ensures ok { IfOk result (IsBuiltFrom text.now) }
+    ensures by_grammar { IfErr result (IsRefusal default_config text.now) }
+    ensures kind { IfErr result (IsRightKind default_config text.now) }
+    ensures no_internal { IfErr result (λ e. e ≢ Error.Internal) }
+{
+    RegexBuilder::new(text)
+        .size_limit(MAX_PATTERN_SIZE)
+        .build(alloc)
 }

@@ -6,7 +6,7 @@ use Rattle.std.proofs.lemmas.Bool.{false_from_ne_true}
 use Rattle.selector.specs.Limits.{most_matchers}
 use Rattle.selector.specs.Matching.{Matching}
 use Rattle.selector.specs.Patterns.{IsWellFormed, IsBuilt, IsBadSyntax, IsTooLarge}
-use Rattle.selector.specs.Read.{ForPattern, ForPatterns, OfPattern, AreBuilt, IsFirstRefused}
+use Rattle.selector.specs.Read.{ForPattern, ForPatterns, OfPattern, AreBuilt, AreShort, IsFirstRefused}
 use Rattle.faults.specs.Answers.{IfFault, IsMapped}
 use Rattle.faults.specs.declared.refused.Refused.{Refused}
 use Rattle.faults.specs.declared.refused.Refused.TheVariants.{Fault, Memory}
@@ -93,17 +93,17 @@ module _ (all before : List Matching) (m : Matching) (after : List Matching) (i 
       own Finds value h = (h.0, ap not ((bytes_decides value value).1 refl))
       own FindsNot value h = (h.0, ap not ((bytes_decides value value).1 refl))
 
-  built_fault : length all ≤ most_matchers → all ≡ before ++ m ∷ after → i ≡ length before → ForPatterns IsWellFormed before → (fault : PatternFault)
+  built_fault : length all ≤ most_matchers → AreShort all → all ≡ before ++ m ∷ after → i ≡ length before → ForPatterns IsWellFormed before → (fault : PatternFault)
       → IsUnbuilt before m.operator m.value fault → (built : List ℕ → Bool) × IsBuildFault built all (fault_of_matcher i fault)
-  built_fault few cut place formed Syntax refused = (λ _. true, (few, first_of_bad_syntax cut place formed refused))
-  built_fault few cut place formed TooLarge refused = let first = first_too_large cut place formed refused in (first.0, (few, first.1))
+  built_fault few short cut place formed Syntax refused = (λ _. true, (few, first_of_bad_syntax cut place formed refused, short))
+  built_fault few short cut place formed TooLarge refused = let first = first_too_large cut place formed refused in (first.0, (few, first.1, short))
 
   -- what its pattern is refused for, told of the selector
-  pub told_of_matcher : length all ≤ most_matchers → all ≡ before ++ m ∷ after → i ≡ length before → ForPatterns IsWellFormed before
+  pub told_of_matcher : length all ≤ most_matchers → AreShort all → all ≡ before ++ m ∷ after → i ≡ length before → ForPatterns IsWellFormed before
       → (refused : Refused PatternFault) (told : Refused SelectorFault) → IsMapped (λ fault told. told ≡ fault_of_matcher i fault) refused told
       → IfFault (IsUnbuilt before m.operator m.value) refused → IfFault (λ fault. (built : List ℕ → Bool) × IsBuildFault built all fault) told
-  told_of_matcher few cut place formed (Fault fault) (Fault told) same unbuilt =
-      subst (λ other. (built : List ℕ → Bool) × IsBuildFault built all other) (sym same) (built_fault few cut place formed fault unbuilt)
-  told_of_matcher few cut place formed (Fault fault) Memory same unbuilt = tt
-  told_of_matcher few cut place formed Memory (Fault told) same unbuilt = absurd same
-  told_of_matcher few cut place formed Memory Memory same unbuilt = tt
+  told_of_matcher few short cut place formed (Fault fault) (Fault told) same unbuilt =
+      subst (λ other. (built : List ℕ → Bool) × IsBuildFault built all other) (sym same) (built_fault few short cut place formed fault unbuilt)
+  told_of_matcher few short cut place formed (Fault fault) Memory same unbuilt = tt
+  told_of_matcher few short cut place formed Memory (Fault told) same unbuilt = absurd same
+  told_of_matcher few short cut place formed Memory Memory same unbuilt = tt

@@ -13,3 +13,4 @@ pub mod VerdictLemmas
 pub mod HeldLemmas
 pub mod MeaningLemmas
 pub mod AnswerLemmas
+pub mod BudgetLemmas

@@ -13,7 +13,7 @@ use Rattle.faults.specs.Answers.{IfAnswered, IfFault, IsMapped}
 use Rattle.faults.specs.declared.refused.Refused.{Refused}
 use Rattle.faults.specs.declared.refused.Refused.TheVariants.{Fault, Memory}
 use Rattle.profile_model.specs.Kinds.{parts_of}
-use Rattle.selector.specs.Read.{IsFaultOf, IsReadQueryBy, IsReadSelector, IsReadQuery, AreBuilt}
+use Rattle.selector.specs.Read.{IsFaultOf, IsReadQueryBy, IsReadSelector, IsReadQuery, AreShort, AreBuilt}
 use Rattle.selector.specs.Building.{IsBuildFault}
 use Rattle.selector.specs.Runs.{begins_with, IsRun}
 use Rattle.selector.specs.Rests.{AtInside, AtSelector, AtQuery, IsBrokenOff, IsReadFault}
@@ -155,13 +155,13 @@ built_fault : (Form : List ℕ → List Matching → Type 0) (built : List ℕ �
 built_fault Form built text matchers form Kind w = w
 built_fault Form built text matchers form (Syntax at) w = absurd w
 built_fault Form built text matchers form TooMany w = (matchers, form, w)
-built_fault Form built text matchers form (Pattern i) w = (matchers, form, w.0, w.1)
-built_fault Form built text matchers form (PatternRefused i) w = (matchers, form, w.0, w.1)
+built_fault Form built text matchers form (Pattern i) w = (matchers, form, w.0, w.1, w.2)
+built_fault Form built text matchers form (PatternRefused i) w = (matchers, form, w.0, w.1, w.2)
 
 pub read_selector : (text : List ℕ) (matchers : List Matching) → IsSelectorText text matchers → (result : Result (List Matching) (Refused SelectorFault))
-    → MatchResult result (λ selector. (selector ≡ matchers) × (length selector ≤ most_matchers) × AreBuilt (λ _. true) selector)
+    → MatchResult result (λ selector. (selector ≡ matchers) × (length selector ≤ most_matchers) × AreShort selector × AreBuilt (λ _. true) selector)
     (IfFault (λ fault. (built : List ℕ → Bool) × IsBuildFault built matchers fault))
     → IfAnswered (IsReadSelector text) result
-read_selector text matchers form (Ok selector) w = (λ _. true, record { form = subst (IsSelectorText text) (sym w.0) form; few = w.1; each = w.2 })
+read_selector text matchers form (Ok selector) w = (λ _. true, record { form = subst (IsSelectorText text) (sym w.0) form; few = w.1; short = w.2; each = w.3 })
 read_selector text matchers form (Err (Fault fault)) w = (w.0, built_fault IsSelectorText w.0 text matchers form fault w.1)
 read_selector text matchers form (Err Memory) w = tt

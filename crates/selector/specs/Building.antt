@@ -3,7 +3,7 @@ use Rattle.std.specs.Prelude.{◌≢◌, ◌<◌, ◌≤◌, ℕ, Bool, List, le
 use Rattle.selector.specs.Limits.{most_matchers}
 use Rattle.selector.specs.Matching.{Matching}
 use Rattle.selector.specs.Patterns.{IsWellFormed, IsBadSyntax, IsTooLarge}
-use Rattle.selector.specs.Read.{OfPattern, ForPatterns, IsFirstRefused}
+use Rattle.selector.specs.Read.{AreShort, OfPattern, ForPatterns, IsFirstRefused}
 use Rattle.selector.specs.declared.operator.Operator.{Operator}
 use Rattle.selector.specs.declared.pattern.PatternFault.{PatternFault}
 use Rattle.selector.specs.declared.pattern.PatternFault.TheVariants as pattern
@@ -24,5 +24,5 @@ abbrev pub IsBuildFault : (List ℕ → Bool) → List Matching → SelectorFaul
 IsBuildFault built matchers Kind = ⊥
 IsBuildFault built matchers (Syntax at) = ⊥
 IsBuildFault built matchers TooMany = most_matchers < length matchers
-IsBuildFault built matchers (Pattern i) = (length matchers ≤ most_matchers) × IsFirstRefused built matchers IsBadSyntax i
-IsBuildFault built matchers (PatternRefused i) = (length matchers ≤ most_matchers) × IsFirstRefused built matchers (IsTooLarge built) i
+IsBuildFault built matchers (Pattern i) = (length matchers ≤ most_matchers) × IsFirstRefused built matchers IsBadSyntax i × AreShort matchers
+IsBuildFault built matchers (PatternRefused i) = (length matchers ≤ most_matchers) × IsFirstRefused built matchers (IsTooLarge built) i × AreShort matchers

@@ -1,10 +1,10 @@
 -- What reading a selector or a query answers.
-use Rattle.std.specs.Prelude.{◌≡◌, ◌≢◌, ◌<◌, ◌≤◌, ℕ, Bool, List, ◌∷◌, ◌++◌, length, Result, Ok, Err}
+use Rattle.std.specs.Prelude.{◌≡◌, ◌≢◌, ◌<◌, ◌≤◌, ℕ, Bool, List, ◌∷◌, ◌++◌, length, sum_by, Result, Ok, Err}
 use Rattle.std.specs.List.{AllByRecursion}
 use Rattle.profile_model.specs.Breaks.{BreaksAt}
 use Rattle.profile_model.specs.Kinds.{parts_of}
 use Rattle.profile_model.specs.ReadKinds.{parts_in}
-use Rattle.selector.specs.Limits.{most_matchers}
+use Rattle.selector.specs.Limits.{most_matchers, most_pattern_bytes}
 use Rattle.selector.specs.Matching.{Matching}
 use Rattle.selector.specs.Grammar.{IsSelectorText, IsQueryOf, kind_of}
 use Rattle.selector.specs.Patterns.{IsBuilt, IsBadSyntax, IsTooLarge}
@@ -27,6 +27,21 @@ OfPattern P Equal value = ⊥
 OfPattern P NotEqual value = ⊥
 OfPattern P Finds value = P value
 OfPattern P FindsNot value = P value
+
+-- how many bytes the matcher's pattern has, where it has one
+abbrev pub pattern_length : Operator → List ℕ → ℕ
+pattern_length Equal value = 0
+pattern_length NotEqual value = 0
+pattern_length Finds value = length value
+pattern_length FindsNot value = length value
+
+-- the bytes of all patterns together
+abbrev pub pattern_bytes : List Matching → ℕ
+pattern_bytes matchers = sum_by (λ (matcher : Matching). pattern_length matcher.operator matcher.value) matchers
+
+-- the patterns have no more bytes than those of a request may have; others are want of memory
+abbrev pub AreShort : List Matching → Type 0
+AreShort matchers = pattern_bytes matchers ≤ most_pattern_bytes
 
 -- P holds of every pattern
 abbrev pub ForPatterns : (List ℕ → Type 0) → List Matching → Type 0
@@ -52,13 +67,14 @@ abbrev pub IsFaultOf : (List ℕ → List Matching → Type 0) → (List ℕ →
 IsFaultOf Form built text Kind = ⊥
 IsFaultOf Form built text (Syntax at) = ((matchers : List Matching) → ¬ (Form text matchers)) × BreaksAt (λ t. (matchers : List Matching) × Form t matchers) text at
 IsFaultOf Form built text TooMany = (matchers : List Matching) × Form text matchers × (most_matchers < length matchers)
-IsFaultOf Form built text (Pattern i) = (matchers : List Matching) × Form text matchers × (length matchers ≤ most_matchers) × IsFirstRefused built matchers IsBadSyntax i
-IsFaultOf Form built text (PatternRefused i) = (matchers : List Matching) × Form text matchers × (length matchers ≤ most_matchers) × IsFirstRefused built matchers (IsTooLarge built) i
+IsFaultOf Form built text (Pattern i) = (matchers : List Matching) × Form text matchers × (length matchers ≤ most_matchers) × IsFirstRefused built matchers IsBadSyntax i × AreShort matchers
+IsFaultOf Form built text (PatternRefused i) = (matchers : List Matching) × Form text matchers × (length matchers ≤ most_matchers) × IsFirstRefused built matchers (IsTooLarge built) i × AreShort matchers
 
--- the matchers that a text stands for: not too many, every pattern built
+-- the matchers that a text stands for: not too many, their patterns not too long together, every pattern built
 pub record AreRead (Form : List ℕ → List Matching → Type 0) (built : List ℕ → Bool) (text : List ℕ) (matchers : List Matching) : Type 0 where
   pub form : Form text matchers
   pub few : length matchers ≤ most_matchers
+  pub short : AreShort matchers
   pub each : AreBuilt built matchers
 
 -- ---- where it is settled which patterns regex builds

@@ -6,13 +6,14 @@ ghost use Rattle.faults.specs.Answers.{IfFault, IsMapped};
 ghost use Rattle.selector.specs.Matching.{passes, holds, seen_labels, value_of};
 ghost use Rattle.selector.specs.Matchers.{matching_of};
 ghost use Rattle.selector.specs.Tests.{operator_of, asked_of};
-ghost use Rattle.selector.specs.Read.{AreBuilt, ForPattern, ForPatterns, OfPattern};
+ghost use Rattle.selector.specs.Read.{AreBuilt, AreShort, ForPattern, ForPatterns, OfPattern};
 ghost use Rattle.selector.specs.Patterns.{IsWellFormed};
 ghost use Rattle.selector.specs.Building.{IsNew, IsUnbuilt, IsBuildFault};
 ghost use Rattle.selector.specs.Limits.{most_matchers};
 ghost use Rattle.selector.specs.Placed.{fault_of_matcher};
 ghost use Rattle.selector.specs.Rests as rests;
 
+use crate::budget::{MAX_PATTERN_BYTES, left_of};
 use crate::judge::Judge;
 use crate::pattern::{Pattern, PatternFault};
 use crate::written::Written;
@@ -206,11 +207,14 @@ pub(crate) fn build_all(
     written: Vec<Written<'_>>,
 ) -> Result<Vec<Matcher>, Refused<SelectorFault>>
     ensures { MatchResult result
-        (λ matchers. (map matching_of matchers.items ≡ map rests.matching_of written.entry.items) × (length written.entry.items ≤ most_matchers) × AreBuilt (λ _. true) (map rests.matching_of written.entry.items))
+        (λ matchers. (map matching_of matchers.items ≡ map rests.matching_of written.entry.items) × (length written.entry.items ≤ most_matchers) × AreShort (map rests.matching_of written.entry.items) × AreBuilt (λ _. true) (map rests.matching_of written.entry.items))
         (IfFault (λ fault. (built : List ℕ → Bool) × IsBuildFault built (map rests.matching_of written.entry.items) fault)) }
 {
     if written.len() > MAX_MATCHERS {
         return Err(Refused::Fault(SelectorFault::TooMany));
+    }
+    if left_of(&written, MAX_PATTERN_BYTES).is_none() {
+        return Err(Refused::Memory);
     }
     let mut matchers = Vec::new(alloc);
     for matcher in written {

@@ -16,8 +16,8 @@ use regex::{Regex, RegexBuilder};
 use regex_syntax::{Config, ErrorKind};
 use std::alloc::{AllocError, Global};
 
-/// The most bytes of what is built of a pattern, about. It takes some three times as much memory together with what
-/// stands beside it, and a millisecond.
+/// The most bytes of the tables that are built of a pattern. With what stands beside them a pattern just below it takes
+/// two to three times as much memory, and one to thirteen milliseconds.
 const MAX_PATTERN_SIZE: usize = 1 << 20;
 
 // A pattern P, and what `regex` built of `\A(?:P)\z`.
@@ -48,8 +48,8 @@ impl PatternFault {
 }
 
 impl Pattern {
-    // The pattern has to be one by itself too: `a)(?:b` is one only between the anchors. By itself it is parsed alone,
-    // since what is built is searched between them.
+    // The pattern has to be one by itself too: `a)(?:b` is one only between the anchors. By itself it is only parsed,
+    // since no search asks for it without them.
     pub(crate) fn build(alloc: Global, text: String) -> Result<Pattern, Refused<PatternFault>>
         ensures { MatchResult result
             (λ pattern. (string_bytes pattern.text ≡ string_bytes text) × IsWellFormed (string_bytes text))

@@ -35,7 +35,7 @@ impl Model for Selector {
 }
 
 impl Selector {
-    ghost use Rattle.selector.specs.Read.{IsReadSelector, AreBuilt};
+    ghost use Rattle.selector.specs.Read.{IsReadSelector, AreShort, AreBuilt};
 
     /// The selector of a text such as `{service_name="shop",env=~"prod.*"}`. The empty text is `{}`.
     pub fn read(alloc: Global, text: &str) -> Result<Selector, Refused<SelectorFault>>
@@ -52,7 +52,7 @@ impl Selector {
         written: Vec<Written<'_>>,
     ) -> Result<Selector, Refused<SelectorFault>>
         ensures { MatchResult result
-            (λ selector. (selector ≡ map matching_of written.entry.items) × (length selector ≤ most_matchers) × AreBuilt (λ _. true) selector)
+            (λ selector. (selector ≡ map matching_of written.entry.items) × (length selector ≤ most_matchers) × AreShort selector × AreBuilt (λ _. true) selector)
             (IfFault (λ fault. (built : List ℕ → Bool) × IsBuildFault built (map matching_of written.entry.items) fault)) }
     {
         let matchers = build_all(alloc, written)?;
@@ -69,7 +69,10 @@ impl Selector {
 }
 
 // The matchers of a selector, as the text has them.
-fn read_selector(alloc: Global, text: &str) -> Result<Vec<Written<'_>>, Refused<ReadFault>>
+pub(crate) fn read_selector(
+    alloc: Global,
+    text: &str,
+) -> Result<Vec<Written<'_>>, Refused<ReadFault>>
     ensures { MatchResult result
         (λ matchers. IsSelectorText text.now (map matching_of matchers.items))
         (IfFault (IsReadFault AtSelector text.now)) }

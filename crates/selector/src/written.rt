@@ -1,8 +1,9 @@
 // A matcher as a text has it, before its pattern is built.
-ghost use Rattle.std.specs.Prelude.{◌≡◌};
+ghost use Rattle.std.specs.Prelude.{◌≡◌, string_bytes};
 ghost use Rattle.faults.specs.Answers.{IsMapped};
 ghost use Rattle.faults.specs.declared.refused.Refused.TheVariants.{Fault};
 ghost use Rattle.selector.specs.Placed.{placed_at};
+ghost use Rattle.selector.specs.Read.{pattern_length};
 
 use crate::{Operator, SelectorFault};
 use faults::Refused;
@@ -12,6 +13,18 @@ pub(crate) struct Written<'a> {
     pub(crate) name: &'a str,
     pub(crate) operator: Operator,
     pub(crate) value: String,
+}
+
+impl Written<'_> {
+    // How many bytes its pattern has, where it has one.
+    pub(crate) fn pattern_len(&self) -> usize
+        ensures { result ≡ pattern_length self.now.operator (string_bytes self.now.value) }
+    {
+        match self.operator {
+            Operator::Finds | Operator::FindsNot => self.value.len(),
+            Operator::Equal | Operator::NotEqual => 0,
+        }
+    }
 }
 
 // Why a rest of a text isn't read.

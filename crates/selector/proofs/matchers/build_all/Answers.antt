@@ -26,11 +26,11 @@ returns-in-Err c =
     let few = loop.few in
     let size = length-map c.args.written.items rests.matching_of in
     let place : c.len-number.result ≡ length before = grind (arith, common_steps) in
-    let unbuilt = subst (λ items. IfFault (IsUnbuilt (map matching_of items) matcher.operator matcher.value) c.in-Err.refused) c.deref.ensures.value c.in-Err.ensures in
-    told_of_matcher all before matcher after c.len-number.result (omega arith) cut place loop.formed c.in-Err.refused c.of_matcher.result c.of_matcher.ensures unbuilt
+    let unbuilt = subst (λ items. IfFault (IsUnbuilt (map matching_of items) matcher.operator matcher.value) c.in-Err.refused) c.deref-in-loop-matcher.ensures.value c.in-Err.ensures in
+    told_of_matcher all before matcher after c.len-number.result (omega arith) loop.short cut place loop.formed c.in-Err.refused c.of_matcher.result c.of_matcher.ensures unbuilt
 
 pub returns : goal.returns
 returns c =
     let loop = c.loop-matcher.invariant in
     let together : map matching_of c.loop-matcher.matchers.items ≡ map rests.matching_of c.args.written.items = grind (arith, common_steps) in
-    (together, loop.few, all_built (map rests.matching_of c.args.written.items) (subst (ForPatterns IsWellFormed) together loop.formed))
+    (together, loop.few, loop.short, all_built (map rests.matching_of c.args.written.items) (subst (ForPatterns IsWellFormed) together loop.formed))

@@ -18,4 +18,4 @@ returns c =
     let parts : parts_of (kind_of c.args.text.now) ≡ parts_in c.in-Ok.kind = ap parts_of (sym c.kind_text.ensures) ∙ c.in-Ok.ensures.read in
     let selector = c.in_ok-selector.ensures in
     let form = subst (IsQueryOf c.args.text.now) (sym selector.0) c.in-Ok-read_selected.ensures in
-    record { read = (λ _. true, (parts, record { form = form; few = selector.1; each = selector.2 })) }
+    record { read = (λ _. true, (parts, record { form = form; few = selector.1; short = selector.2; each = selector.3 })) }

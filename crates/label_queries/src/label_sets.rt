@@ -77,8 +77,8 @@ impl LabelSets {
     }
 }
 
-// Whether any of the selectors matches the profile, or there are none.
-fn is_asked(selectors: &mut Vec<Selector>, profile: &Profile) -> Result<bool, AllocError>
+/// Whether any of the selectors matches the profile, or there are none.
+pub fn is_asked(selectors: &mut Vec<Selector>, profile: &Profile) -> Result<bool, AllocError>
     ensures exact { IfOk result (λ asked. asked ≡ is_asked selectors.old.items profile.now) }
     ensures unchanged { selectors.new.items ≡ selectors.old.items }
 {

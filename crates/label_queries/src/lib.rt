@@ -9,6 +9,7 @@ mod shown;
 mod tests;
 mod text;
 
-pub use label_sets::LabelSets;
+pub use label_sets::{LabelSets, is_asked};
 pub use laws::{each_member_once, sets_of_more_profiles};
+pub use shown::shown_labels;
 pub use text::{names_text, series_text};

@@ -7,7 +7,7 @@ use selector::{NAME_LABEL, TYPE_LABEL};
 use std::alloc::{AllocError, Global};
 
 /// The profile's labels, with the two that tell its type in place of any of its own with their names.
-pub(crate) fn shown_labels(alloc: Global, profile: &Profile) -> Result<LabelSet, AllocError>
+pub fn shown_labels(alloc: Global, profile: &Profile) -> Result<LabelSet, AllocError>
     ensures { IfOk result (λ labels. labels ≡ shown_labels profile.now) }
 {
     let type_text = profile.kind.to_string(alloc)?;

@@ -1,5 +1,10 @@
 pub mod CloneLemmas
 pub mod SpanLemmas
 pub mod TypeLemmas
-pub mod SumLemmas
+pub mod SetLemmas
 pub mod AskedLemmas
+pub mod SumLemmas
+pub mod PlotLemmas
+pub mod GroupLemmas
+pub mod OrderLemmas
+pub mod QueryLemmas

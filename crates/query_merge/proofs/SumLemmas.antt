@@ -46,7 +46,7 @@ value_in-sums (x ∷ xs) q sorted =
     ∙ ap (λ (b : Bool). cond b x.1 0 + value_in xs q) turn
     ∙ first_counts (is_eq (stack_cmp q x.0)) x.1 (value_in xs q) (lookup (is_at (stack_cmp q)) xs) none later
 
-value_in-append : (xs ys : List Sample) (q : List (List ℕ)) → value_in (xs ++ ys) q ≡ value_in xs q + value_in ys q
+pub value_in-append : (xs ys : List Sample) (q : List (List ℕ)) → value_in (xs ++ ys) q ≡ value_in xs q + value_in ys q
 value_in-append xs ys q = sum_by-append (λ (one : Sample). if stack_eq one.0 q then one.1 else 0) xs ys
 
 value_in-sums_of : (samples : List Sample) (q : List (List ℕ)) → value_in (sums_of samples) q ≡ value_in samples q

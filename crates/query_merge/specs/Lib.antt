@@ -1,5 +1,10 @@
 pub mod Rows
 pub mod Spans
 pub mod TypeLists
+pub mod SetLists
 pub mod Asked
 pub mod Merging
+pub mod Grid
+pub mod Plotted
+pub mod Gathering
+pub mod Laws

@@ -2,10 +2,22 @@
 #![tactic(auto)]
 
 mod asked;
+mod grid;
+mod groups;
+mod label_lists;
+mod laws;
 mod merge;
+mod points;
 mod stats;
+#[cfg(test)]
+mod tests;
 mod types;
 
+pub use grid::{MAX_STEP, MAX_TIME_MS};
+pub use groups::Series;
+pub use label_lists::LabelLists;
+pub use laws::{one_query_of_a_text, points_are_first, rows_in_any_order};
 pub use merge::Merge;
+pub use points::Points;
 pub use stats::Stats;
 pub use types::Types;

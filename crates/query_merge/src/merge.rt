@@ -49,6 +49,7 @@ impl Merge {
     pub fn add(&mut self, part: &Part) -> Result<(), AllocError>
         requires room { total_of self.old.sums + profiles_total (profiles_of part.now.rows) < total_bound }
         ensures more { (profiles : List Profile) → IsMergeOf self.old profiles → OnOk result (IsMergeOf self.new (profiles ++ profiles_of part.now.rows)) }
+        ensures total { OnOk result (total_of self.new.sums ≤ total_of self.old.sums + profiles_total (profiles_of part.now.rows)) }
         ensures query { self.new.query ≡ self.old.query }
         ensures err { OnErr result (self.new ≡ self.old) }
     {
@@ -62,6 +63,7 @@ impl Merge {
         requires query { self.old.query ≡ other.query }
         requires room { total_of self.old.sums + total_of other.sums < total_bound }
         ensures more { (profiles : List Profile) → (others : List Profile) → IsMergeOf self.old profiles → IsMergeOf other others → OnOk result (IsMergeOf self.new (profiles ++ others)) }
+        ensures total { OnOk result (total_of self.new.sums ≡ total_of self.old.sums + total_of other.sums) }
         ensures query { self.new.query ≡ self.old.query }
         ensures err { OnErr result (self.new ≡ self.old) }
     {
@@ -96,7 +98,8 @@ fn sums_of_part(alloc: Global, asked: &mut Asked, rows: &[Row]) -> Result<StackS
 // The sums of both together: the fewer stacks are added to the more.
 fn joined(held: &StackSums, more: StackSums) -> Result<StackSums, AllocError>
     requires { total_of held.now + total_of more < total_bound }
-    ensures { (first : List Sample) → (second : List Sample) → held.now ≡ sums_of first → more ≡ sums_of second
+    ensures total { IfOk result (λ sums. total_of sums ≡ total_of held.now + total_of more) }
+    ensures sums { (first : List Sample) → (second : List Sample) → held.now ≡ sums_of first → more ≡ sums_of second
         → IfOk result (λ sums. sums ≡ sums_of (first ++ second)) }
 {
     if held.len() <= more.len() {

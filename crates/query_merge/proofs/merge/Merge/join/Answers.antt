@@ -10,4 +10,4 @@ returns-clause-more c = λ profiles others one other.
     let query = c.self.inside.asked in
     let held : c.self.inside.sums ≡ stacks_of query profiles = search rules in
     let more : c.other.inside.sums ≡ stacks_of query others = search rules in
-    c.in_ok-self-inside.ensures (asked_samples query profiles) (asked_samples query others) held more ∙ of_both query profiles others
+    c.in_ok-self-inside.ensures.sums (asked_samples query profiles) (asked_samples query others) held more ∙ of_both query profiles others

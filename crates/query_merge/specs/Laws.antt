@@ -1,0 +1,46 @@
+-- What holds of all rows, in whatever order they come.
+use Rattle.std.specs.Prelude.{◌≡◌, ℕ, ◌+◌, ◌*◌, ◌<◌, ◌≤◌, List, Ok, Option}
+use Rattle.std.specs.List.Sorted.{IsPermutation}
+use Rattle.label_queries.specs.Labels.{label_sets_of}
+use Rattle.profile_model.specs.declared.profile.Profile.{Profile}
+use Rattle.selector.specs.Matching.{Matching}
+use Rattle.selector.specs.Read.{IsReadQuery}
+use Rattle.selector.specs.declared.query.Query.{Query}
+use Rattle.query_merge.specs.Asked.{stacks_of}
+use Rattle.query_merge.specs.Grid.{point_of, width_of}
+use Rattle.query_merge.specs.Plotted.{AreSeriesOf, Group, Plot}
+use Rattle.query_merge.specs.Spans.{IsSpanOf}
+use Rattle.query_merge.specs.TypeLists.{types_of}
+
+abbrev pub SpanInAnyOrder : Type 0
+SpanInAnyOrder = (profiles others : List Profile) (span : Option (ℕ × ℕ)) → IsPermutation profiles others → IsSpanOf profiles span → IsSpanOf others span
+
+abbrev pub TypesInAnyOrder : Type 0
+TypesInAnyOrder = (profiles others : List Profile) → IsPermutation profiles others → types_of profiles ≡ types_of others
+
+abbrev pub SetsInAnyOrder : Type 0
+SetsInAnyOrder =
+    (selectors : List (List Matching)) (profiles others : List Profile) → IsPermutation profiles others
+    → label_sets_of selectors profiles ≡ label_sets_of selectors others
+
+abbrev pub StacksInAnyOrder : Type 0
+StacksInAnyOrder = (query : Query) (profiles others : List Profile) → IsPermutation profiles others → stacks_of query profiles ≡ stacks_of query others
+
+abbrev pub SeriesInAnyOrder : Type 0
+SeriesInAnyOrder =
+    (plot : Plot) (profiles others : List Profile) (groups : List Group) → IsPermutation profiles others
+    → AreSeriesOf plot profiles groups → AreSeriesOf plot others groups
+
+-- one of the points, not before the time, and none of the points that aren't before it is earlier
+pub record IsFirstPoint (start width time point : ℕ) : Type 0 where
+  pub index : ℕ
+  pub at : point ≡ start + index * width
+  pub not_before : time ≤ point
+  pub first : (i : ℕ) → time ≤ start + i * width → point ≤ start + i * width
+
+abbrev pub PointsAreFirst : Type 0
+PointsAreFirst = (start step time : ℕ) → 0 < step → IsFirstPoint start (width_of step) time (point_of start step time)
+
+-- what is read of one text is one query
+abbrev pub OneQuery : Type 0
+OneQuery = (text : List ℕ) (one other : Query) → IsReadQuery text (Ok one) → IsReadQuery text (Ok other) → one ≡ other

@@ -1,0 +1,21 @@
+// What holds of all answers.
+ghost use Rattle.query_merge.specs.Laws.{OneQuery, PointsAreFirst, SeriesInAnyOrder, SetsInAnyOrder, SpanInAnyOrder, StacksInAnyOrder, TypesInAnyOrder};
+
+/// In whatever order rows and parts come, they come to the same. It does nothing: its clauses are the law.
+pub fn rows_in_any_order()
+    ensures span { SpanInAnyOrder }
+    ensures types { TypesInAnyOrder }
+    ensures sets { SetsInAnyOrder }
+    ensures stacks { StacksInAnyOrder }
+    ensures series { SeriesInAnyOrder }
+{}
+
+/// A profile counts at the first point that isn't before its time. It does nothing: its clause is the law.
+pub fn points_are_first()
+    ensures { PointsAreFirst }
+{}
+
+/// Queries that were read of one text are one query, so their merges may be joined. It does nothing: its clause is the law.
+pub fn one_query_of_a_text()
+    ensures { OneQuery }
+{}

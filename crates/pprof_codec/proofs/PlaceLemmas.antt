@@ -1,7 +1,7 @@
 -- Frames by their numbers.
 use Rattle.std.proofs.Common.{◌≡◌, ℕ, suc, Bool, cond, ◌+◌, ◌<◌, List, [], ◌∷◌, ◌++◌, length, get_or, Option, Some, None, Result, Ok, Err, refl, sym, ap, ◌∙◌, subst, arith}
 use Rattle.std.specs.Prelude.{◌==◌, false, true, map, reverse, option_map, option_and_then, slice_get, unwrap_or, IfOk, MatchResult, Vec}
-use Rattle.std.proofs.lemmas.List.{get_or_append_left, get_or-append-add, get_or-map, length-map}
+use Rattle.std.proofs.lemmas.List.{get_or_append_left, get_or-append-add, get_or-map}
 use Rattle.std.specs.List.{flat_map}
 use Rattle.std.proofs.lemmas.List.FromFn.{get_or-range_with_len, length-range_with_len}
 use Rattle.std.specs.Map.{lookup}

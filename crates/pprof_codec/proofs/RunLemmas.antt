@@ -15,9 +15,8 @@ use Rattle.profile_model.specs.Sums.{sums_of, total_of, with_added}
 use Rattle.profile_model.specs.SumLaw.{value_in}
 use Rattle.profile_model.proofs.SumLawLemmas.{sums_of-any_order}
 use Rattle.pprof_message.specs.Pprof.{Pprof}
-use Rattle.pprof_codec.specs.Frames.{root_first}
 use Rattle.pprof_codec.specs.Profiles.{samples_of, stacks_weight}
-use Rattle.pprof_codec.specs.Tables.{first_stack, ids_at, numbers_of, run_added, sample_at, stack_at, sums_over, sums_weight, value_over}
+use Rattle.pprof_codec.specs.Tables.{first_stack, numbers_of, run_added, sample_at, stack_at, sums_over, sums_weight, value_over}
 use Rattle.pprof_codec.proofs.OrderLemmas.{stack-at, take-part, total-order, total-over, value-part}
 use Rattle.pprof_codec.proofs.WeightLemmas.{fold-parts, weight-grows, weighs-with_added}
 

@@ -1,6 +1,4 @@
 use Rattle.std.proofs.Common.{◌≡◌, ◌++◌, take}
-use Rattle.std.specs.Prelude.{map}
-use Rattle.pprof_codec.specs.Tables.{frame_numbered}
 use Rattle.pprof_codec.proofs.numbers.push_numbers.Given as goal
 
 abbrev pub invariant-loop-number : goal.invariant-loop-number

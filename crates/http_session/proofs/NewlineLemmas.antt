@@ -7,6 +7,7 @@ use Rattle.std.proofs.lemmas.List.Elements.{All-head, All-tail}
 use Rattle.httparse.specs.Ascii.{line_feed, carriage_return, space, colon}
 use Rattle.httparse.specs.Grammar.{RequestHead, LineEnd, crlf, lf, print_end, print_blank, print_version, Field, print_field, print_section, print_request, is_token_byte, is_uri_byte, is_value_byte, AllPass, IsField, IsRequestHead, ReadsRequest}
 use Rattle.httparse.specs.Spans.{RequestExceeds}
+use Rattle.http_session.specs.Limits.{most_head_lines, most_headers}
 use Rattle.http_session.specs.Heads.{is_line_byte, after_lines, newlines}
 
 newlines-append : (a b : List ℕ) → newlines (a ++ b) ≡ newlines a + newlines b
@@ -138,8 +139,8 @@ head_newlines h is =
     let here : newlines (b ∷ (method ++ tail)) ≡ length h.fields + 2 = omega arith in
     rw (text, cut) here
 
--- where httparse counts too many headers, 66 newline bytes have come
-pub exceeds_newlines : (bytes : List ℕ) → RequestExceeds 64 bytes → 66 ≤ newlines (after_lines bytes)
+-- where httparse counts too many headers, the newline bytes of as many lines as a head may have have come
+pub exceeds_newlines : (bytes : List ℕ) → RequestExceeds most_headers bytes → most_head_lines ≤ newlines (after_lines bytes)
 exceeds_newlines bytes (front, rest, is, head, reads, over) =
     let text : front ++ line_feed ∷ [] ≡ print_request head = reads.1 ∙ append-nil (print_request head) in
     let many = head_newlines head reads.0 in
@@ -175,8 +176,8 @@ front_of xs ys more rest is short =
     let front : take n ys ≡ xs = sym (take-append-le n ys rest short) ∙ ap (λ (zs : List ℕ). take n zs) (sym is) ∙ take_at xs more n refl in
     sym (take-append-drop n ys) ∙ ap (λ (zs : List ℕ). zs ++ drop n ys) front
 
--- behind 66 newline bytes no head of at most 64 headers goes on
-pub head_has_come : (bytes more : List ℕ) (head : RequestHead) (rest : List ℕ) → 66 ≤ newlines (after_lines bytes) → length head.fields ≤ 64 →
+-- behind so many newline bytes no head within its limits goes on
+pub head_has_come : (bytes more : List ℕ) (head : RequestHead) (rest : List ℕ) → most_head_lines ≤ newlines (after_lines bytes) → length head.fields ≤ most_headers →
     ReadsRequest (bytes ++ more) head rest → (left : List ℕ) × ReadsRequest bytes head left
 head_has_come bytes more head rest many few reads =
     let text = print_request head in

@@ -2,6 +2,7 @@
 use Rattle.std.proofs.Common.{◌≡◌, ℕ, ◌+◌, ◌-◌, ◌≤◌, List, [], ◌∷◌, ◌++◌, length, take, drop, map, refl, sym, subst, ap, ap₂, ◌∙◌, arith, append_assoc, length-append, length-take, slice_range, Option, Some, None, IfSome}
 use Rattle.std.specs.Option.{option_map}
 use Rattle.std.proofs.Math.Seq.{take-append_seam}
+use Rattle.http_session.specs.Limits.{most_head_bytes, most_headers}
 use Rattle.http_session.specs.InHead.{Grows}
 use Rattle.std.specs.List.{All}
 use Rattle.std.proofs.lemmas.List.{take-take, drop-take, length-take-le, length-map}
@@ -31,13 +32,13 @@ headers_in_front n bytes (h ∷ headers) within =
     (headers_in_front n bytes headers (All-tail (IsHeaderWithin n) h headers within))
 
 -- what the parser answers, said of the text of the head alone
-pub head_at : (bytes : List ℕ) (headers : List HeaderSpan) (spans : RequestSpans) (head : RequestHead) → length bytes ≤ 16384 → length headers ≡ 64 →
+pub head_at : (bytes : List ℕ) (headers : List HeaderSpan) (spans : RequestSpans) (head : RequestHead) → length bytes ≤ most_head_bytes → length headers ≡ most_headers →
     IsRequestWithin bytes headers spans → IsRequestAt bytes headers spans head → IsHeadAt bytes headers spans head
 head_at bytes headers spans head short room within at =
     let long : length (take spans.len bytes) ≡ spans.len = length-take-le spans.len bytes within.section.len_fits in
     let counted : length head.fields ≡ length (take spans.headers headers) =
     sym (length-map head.fields name_and_value) ∙ ap length (sym at.fields) ∙ length-map (take spans.headers headers) (header_bytes bytes) in
-    let few : length head.fields ≤ 64 = omega (arith, counted, room, length-take spans.headers headers) in
+    let few : length head.fields ≤ most_headers = omega (arith, counted, room, length-take spans.headers headers) in
     record {
       begins = record { reads = at.reads; few = few; short = omega (arith, at.len, within.section.len_fits) };
       fits = within.section.len_fits;

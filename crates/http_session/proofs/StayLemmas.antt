@@ -3,6 +3,7 @@ use Rattle.std.proofs.Common.{◌≡◌, ℕ, ◌≤◌, ◌<◌, List, [], ◌+
 use Rattle.std.proofs.lemmas.Bool.{cases_lt}
 use Rattle.std.proofs.lemmas.List.{take-append-le}
 use Rattle.httparse.specs.Grammar.{ReadsRequest, HasNoRequest, NeverHasRequest}
+use Rattle.http_session.specs.Limits.{most_head_bytes, most_headers}
 use Rattle.http_session.specs.Heads.{IsHeadTooLarge}
 use Rattle.http_session.specs.Asked.{Asked}
 use Rattle.http_session.specs.Takes.{HasBadLength, IsBetween, IsBad, IsAtEnd, Ending, done, closing, bad, EndsAs}
@@ -24,13 +25,13 @@ bad_length_stays bytes more e (head, rest, begins, wrong) = (head, rest ++ more,
 
 large_stays : (bytes more : List ℕ) → IsHeadTooLarge bytes → IsHeadTooLarge (bytes ++ more)
 large_stays bytes more (inl (long, none)) =
-    inl (omega (arith, long, length-append bytes more), subst HasNoRequest (sym (take-append-le 16384 bytes more long)) none)
+    inl (omega (arith, long, length-append bytes more), subst HasNoRequest (sym (take-append-le most_head_bytes bytes more long)) none)
 large_stays bytes more (inr (many, over)) = inr (
   omega (arith, many, after-append bytes more),
   λ head rest reads. ⊎_elim
-      (λ (few : length head.fields < 65). let (left, here) = head_has_come bytes more head rest many (omega (arith, few)) reads in absurd (omega (arith, few, over head left here)))
-      (λ (enough : 65 ≤ length head.fields). omega (arith, enough))
-      (cases_lt (length head.fields) 65),
+      (λ (enough : most_headers < length head.fields). enough)
+      (λ (few : length head.fields ≤ most_headers). let (left, here) = head_has_come bytes more head rest many few reads in absurd (omega (arith, few, over head left here)))
+      (cases_lt most_headers (length head.fields)),
 )
 
 nothing_more : (bytes more : List ℕ) → more ≡ [] → bytes ≡ bytes ++ more

@@ -6,6 +6,7 @@ use Rattle.std.proofs.lemmas.Bool.{true≢false, false_from_ne_true}
 use Rattle.httparse.specs.Grammar.{RequestHead, print_request, ReadsRequest, HasNoRequest, NeverHasRequest}
 use Rattle.httparse.proofs.GrammarLemmas.{request_unique}
 use Rattle.link_trait.specs.Link.{Told, Took}
+use Rattle.http_session.specs.Limits.{most_head_bytes}
 use Rattle.http_session.specs.Heads.{BeginsWithHead, IsHeadTooLarge, headers_of}
 use Rattle.http_session.specs.Framing.{Framing, sized, framing_of, IsBody, IsCutBody}
 use Rattle.http_session.specs.Asked.{Asked, asked_of}
@@ -65,24 +66,24 @@ whole_is_one number moment bytes rest left asked other (head, framing, body, aft
 
 -- ---- a whole request, and bytes that begin with none
 
--- a short head stands in the first 16,384 bytes
-short_head : (bytes : List ℕ) (head : RequestHead) (rest : List ℕ) → BeginsWithHead bytes head rest → 16384 ≤ length bytes →
-    (left : List ℕ) × ReadsRequest (take 16384 bytes) head left
+-- a head stands in as many bytes as it may have
+short_head : (bytes : List ℕ) (head : RequestHead) (rest : List ℕ) → BeginsWithHead bytes head rest → most_head_bytes ≤ length bytes →
+    (left : List ℕ) × ReadsRequest (take most_head_bytes bytes) head left
 short_head bytes head rest begins long =
     let text = print_request head in
-    let more : ℕ = 16384 - length text in (
+    let more : ℕ = most_head_bytes - length text in (
       take more rest,
       (
         begins.reads.0,
-        ap (λ (xs : List ℕ). take 16384 xs) begins.reads.1
-            ∙ ap (λ n. take n (text ++ rest)) (let all : 16384 ≡ length text + more = omega (arith, begins.short) in all)
+        ap (λ (xs : List ℕ). take most_head_bytes xs) begins.reads.1
+            ∙ ap (λ n. take n (text ++ rest)) (let all : most_head_bytes ≡ length text + more = omega (arith, begins.short) in all)
             ∙ take-append-add text rest more,
       ),
     )
 
 pub no_head : (bytes : List ℕ) (head : RequestHead) (rest : List ℕ) → BeginsWithHead bytes head rest → IsHeadTooLarge bytes → ⊥
 no_head bytes head rest begins large =
-    ⊎_elim (λ (none : (16384 ≤ length bytes) × HasNoRequest (take 16384 bytes)). let short = short_head bytes head rest begins none.0 in none.1 head short.0 short.1)
+    ⊎_elim (λ (none : (most_head_bytes ≤ length bytes) × HasNoRequest (take most_head_bytes bytes)). let short = short_head bytes head rest begins none.0 in none.1 head short.0 short.1)
     (λ many. omega (arith, many.1 head rest begins.reads, begins.few))
     large
 

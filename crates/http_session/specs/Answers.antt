@@ -3,6 +3,7 @@ use Rattle.std.specs.Prelude.{◌≡◌, ℕ, ◌+◌, min, List, [], ◌++◌, 
 use Rattle.link_trait.specs.Link.{Told, Took}
 use Rattle.http_session.specs.Takes.{IsWhole, IsBad, IsBetween, IsPartial}
 use Rattle.httparse.specs.Grammar.{RequestHead}
+use Rattle.http_session.specs.Limits.{most_requests}
 use Rattle.http_session.specs.Heads.{BeginsWithHead}
 use Rattle.http_session.specs.Waiting.{Waiting}
 use Rattle.http_session.specs.declared.bad_request.BadRequest.{BadRequest}
@@ -12,7 +13,7 @@ use Rattle.http_session.specs.declared.reader.NextRequest.TheVariants as answer
 
 -- after a request the reader goes on, one request further; after any other answer it has ended
 abbrev pub Continues : NextRequest → Waiting → Waiting → Type 0
-Continues (answer.Request request) old new = (new.ended ≡ false) × (new.given ≡ min (old.given + 1) 1000000)
+Continues (answer.Request request) old new = (new.ended ≡ false) × (new.given ≡ min (old.given + 1) most_requests)
 Continues answer.End old new = new.ended ≡ true
 Continues (answer.Bad bad) old new = new.ended ≡ true
 Continues (answer.LinkFault count) old new = new.ended ≡ true

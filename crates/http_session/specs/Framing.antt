@@ -5,14 +5,15 @@ use Rattle.std.specs.List.{list_any, slice_split}
 use Rattle.httparse.specs.Ascii.{comma}
 use Rattle.httparse.specs.Grammar.{RequestHead, trim_ows}
 use Rattle.wire_forms.specs.Digits.{number_of}
+use Rattle.http_session.specs.Limits.{most_body_bytes, most_requests}
 use Rattle.http_session.specs.Heads.{is_same_text, headers_of, all_named, first_named}
 use Rattle.http_session.specs.declared.bad_request.BadRequest.{BadRequest}
 use Rattle.http_session.specs.declared.bad_request.BadRequest.TheVariants.{Malformed, BodyTooLarge, Chunked}
 
--- the number of a Content-Length as a length: at most 8,388,608
+-- the number of a Content-Length as a length, where it is no greater than a body's may be
 abbrev pub length_of : Option ℕ → Result ℕ BadRequest
 length_of None = Err Malformed
-length_of (Some number) = if nat_le number 8388608 then Ok number else Err BodyTooLarge
+length_of (Some number) = if nat_le number most_body_bytes then Ok number else Err BodyTooLarge
 
 -- the length that a Content-Length says, in 1 to 19 digits
 abbrev pub length_in : List ℕ → Result ℕ BadRequest
@@ -60,10 +61,10 @@ abbrev pub has_close : List ℕ → Bool
 has_close value = list_any is_close (slice_split (λ b. b == comma) value)
 
 -- The connection closes after this request: a Connection header says so, the version is 1.0, the method
--- is HEAD, or it is request 1,000,000 of its connection.
+-- is HEAD, or it is the last request that its connection may have.
 abbrev pub closes : ℕ → RequestHead → Bool
 closes number head =
     list_any has_close (all_named (codes "connection") (headers_of head))
     || head.minor == 0
     || pointwise nat_eq head.method (codes "HEAD")
-    || nat_le 1000000 number
+    || nat_le most_requests number

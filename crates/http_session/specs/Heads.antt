@@ -5,12 +5,13 @@ use Rattle.std.specs.Cmp.Lexicographic.{pointwise}
 use Rattle.httparse.specs.Ascii.{line_feed, carriage_return}
 use Rattle.httparse.specs.Grammar.{RequestHead, print_request, ReadsRequest, HasNoRequest, MayBecomeRequest}
 use Rattle.httparse.specs.Spans.{name_and_value}
+use Rattle.http_session.specs.Limits.{most_head_bytes, most_head_lines, most_headers}
 
--- the bytes begin with this head, of at most 64 headers and 16,384 bytes, and then the rest comes
+-- the bytes begin with this head, within its limits, and then the rest comes
 pub record BeginsWithHead (bytes : List ℕ) (head : RequestHead) (rest : List ℕ) : Type 0 where
   pub reads : ReadsRequest bytes head rest
-  pub few : length head.fields ≤ 64
-  pub short : length (print_request head) ≤ 16384
+  pub few : length head.fields ≤ most_headers
+  pub short : length (print_request head) ≤ most_head_bytes
 
 -- CR or LF
 abbrev pub is_line_byte : ℕ → Bool
@@ -26,20 +27,20 @@ abbrev pub newlines : List ℕ → ℕ
 newlines [] = 0
 newlines (b ∷ bytes) = (if b == line_feed then 1 else 0) + newlines bytes
 
--- No whole head in 16,384 bytes, leading CR and LF bytes counted; or 66 newline bytes after these, and
--- no head of at most 64 headers.
+-- No whole head in as many bytes as one may have, leading CR and LF bytes counted; or as many newline bytes after
+-- these as one may have lines, and no head of so few headers.
 abbrev pub IsHeadTooLarge : List ℕ → Type 0
 IsHeadTooLarge bytes =
-    ((16384 ≤ length bytes) × HasNoRequest (take 16384 bytes))
-    ⊎ ((66 ≤ newlines (after_lines bytes))
-    × ((head : RequestHead) (rest : List ℕ) → ReadsRequest bytes head rest → 64 < length head.fields))
+    ((most_head_bytes ≤ length bytes) × HasNoRequest (take most_head_bytes bytes))
+    ⊎ ((most_head_lines ≤ newlines (after_lines bytes))
+    × ((head : RequestHead) (rest : List ℕ) → ReadsRequest bytes head rest → most_headers < length head.fields))
 
 -- the head is still being read: no prefix is one, more bytes can make one, and no limit is met
 pub record IsUnfinished (bytes : List ℕ) : Type 0 where
   pub none : HasNoRequest bytes
   pub may : MayBecomeRequest bytes
-  pub short : length bytes < 16384
-  pub few : newlines (after_lines bytes) < 66
+  pub short : length bytes < most_head_bytes
+  pub few : newlines (after_lines bytes) < most_head_lines
 
 -- two texts are the same, without case
 abbrev pub is_same_text : List ℕ → List ℕ → Bool

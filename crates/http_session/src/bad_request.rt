@@ -7,9 +7,9 @@ ghost use Rattle.http_session.specs.Codes.{fault_code};
 pub enum BadRequest {
     /// No head, or headers that say no body's length.
     Malformed,
-    /// More than 64 headers, or no whole head in 16,384 bytes.
+    /// More headers than a head may have, or no whole head in as many bytes as it may have.
     HeadTooLarge,
-    /// A Content-Length above 8,388,608.
+    /// A Content-Length above what a body may have.
     BodyTooLarge,
     /// Transfer-Encoding is `chunked`, which isn't read.
     Chunked,

@@ -1,14 +1,15 @@
 //! The bytes of a connection that were taken and belong to no request yet.
 ghost use Rattle.std.specs.Prelude.{◌≡◌, ◌+◌, ◌≤◌, ◌<◌, [], true, length, drop, OnErr, IfOk, OnOk};
 ghost use Rattle.link_trait.specs.Link.{HasCause, Goes};
+ghost use Rattle.http_session.specs.Limits.{most_head_bytes};
 ghost use Rattle.http_session.specs.Pulled.{FillStep};
 
-use crate::head::HEAD_LIMIT;
+use crate::head::MAX_HEAD_BYTES;
 use link_trait::{Failed, Link};
 use std::alloc::{AllocError, Global};
 use std::marker::Model;
 
-/// Room for one head: 16,384 bytes, of which those before `end` are held.
+/// Room for one head, of whose bytes those before `end` are held.
 #[derive(Drop)]
 pub(crate) struct Buffer {
     bytes: Vec<u8>,
@@ -20,23 +21,25 @@ impl Model for Buffer {
 
     ghost Value = { List ℕ };
 
+    ghost use Rattle.http_session.specs.Limits.{most_head_bytes};
+
     ghost view = { λ a. take a.end a.bytes.items };
 
-    ghost invariant = { λ a. (a.end ≤ 16384) × (length a.bytes.items ≡ 16384) };
+    ghost invariant = { λ a. (a.end ≤ most_head_bytes) × (length a.bytes.items ≡ most_head_bytes) };
 }
 
 impl Buffer {
     pub(crate) fn new(alloc: Global) -> Result<Buffer, AllocError>
         ensures { IfOk result (λ buffer. buffer ≡ []) }
     {
-        let bytes = vec![in alloc; 0; HEAD_LIMIT]?;
+        let bytes = vec![in alloc; 0; MAX_HEAD_BYTES]?;
         Ok(Buffer { bytes, end: 0 })
     }
 
     /// The bytes held.
     pub(crate) fn held(&self) -> &[u8]
         ensures value { result.now ≡ self.now }
-        ensures bound { length result.now ≤ 16384 }
+        ensures bound { length result.now ≤ most_head_bytes }
     {
         &self.bytes[..self.end]
     }
@@ -52,7 +55,7 @@ impl Buffer {
 
     /// Reads more bytes to the end of those held. 0 is the end of input.
     pub(crate) fn fill<L: Link>(&mut self, link: &mut L) -> Result<usize, Failed>
-        requires room { length self.old < 16384 }
+        requires room { length self.old < most_head_bytes }
         requires open { L.is_open link.old ≡ true }
         ensures open { OnOk result (L.is_open link.new ≡ true) }
         ensures grows { IfOk result (λ count. length self.new ≡ length self.old + count) }

@@ -12,8 +12,8 @@ use crate::head::{Named, find_header, first_header, only_header};
 use httparse::spans::HeaderSpan;
 use wire_forms::digits_of;
 
-// The longest body that is read.
-const BODY_LIMIT: u64 = 8_388_608;
+// The most bytes of a body that is read.
+const MAX_BODY_BYTES: u64 = 8_388_608;
 
 // A number of 19 digits is below 2^64.
 const LENGTH_DIGITS: usize = 19;
@@ -54,7 +54,7 @@ fn read_length(text: &[u8]) -> Result<usize, BadRequest>
     ensures { result ≡ length_in text.now }
 {
     match digits_of(text, LENGTH_DIGITS) {
-        Some(length) if length <= BODY_LIMIT => Ok(length as usize),
+        Some(length) if length <= MAX_BODY_BYTES => Ok(length as usize),
         Some(_) => Err(BadRequest::BodyTooLarge),
         None => Err(BadRequest::Malformed),
     }

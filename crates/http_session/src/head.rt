@@ -1,6 +1,7 @@
 //! The head at the front of some bytes, read by httparse.
 ghost use Rattle.std.specs.Prelude.{◌≡◌, ◌≤◌, ◌<◌, ◌∷◌, [], length, map, All, IfSome, IfNone, option_map};
 ghost use Rattle.httparse.specs.Spans.{IsWithin, IsHeaderWithin, span_bytes, header_bytes};
+ghost use Rattle.http_session.specs.Limits.{most_head_bytes};
 ghost use Rattle.http_session.specs.HeadRead.{IsHeadRead};
 ghost use Rattle.http_session.specs.Heads.{after_lines, newlines, all_named, first_named};
 ghost use Rattle.http_session.specs.Named.{IsNamed};
@@ -8,14 +9,14 @@ ghost use Rattle.http_session.specs.Named.{IsNamed};
 use httparse::spans::{HeaderSpan, RequestSpans, Span, parse_request};
 use httparse::{Error, Status};
 
-/// The longest head, with the CR and LF bytes before it.
-pub(crate) const HEAD_LIMIT: usize = 16_384;
+/// The most bytes of a head, with the CR and LF bytes before it.
+pub(crate) const MAX_HEAD_BYTES: usize = 16_384;
 
 /// The most headers of a head.
-pub(crate) const HEADER_LIMIT: usize = 64;
+pub(crate) const MAX_HEADERS: usize = 64;
 
-// A head of at most 64 headers has at most 66 newline bytes, and ends at the last.
-const NEWLINE_LIMIT: usize = 66;
+// A head has a line of its request, one for each header, and an empty one; it ends at the last newline byte.
+const MAX_HEAD_LINES: usize = MAX_HEADERS + 2;
 
 /// What some bytes say of the head at their front.
 pub(crate) enum HeadRead {
@@ -26,14 +27,14 @@ pub(crate) enum HeadRead {
 }
 
 /// Reads the head at the front of the bytes, and where its headers are.
-pub(crate) fn read_head(bytes: &[u8], headers: &mut [HeaderSpan; HEADER_LIMIT]) -> HeadRead
-    requires { length bytes.now ≤ 16384 }
+pub(crate) fn read_head(bytes: &[u8], headers: &mut [HeaderSpan; MAX_HEADERS]) -> HeadRead
+    requires { length bytes.now ≤ most_head_bytes }
     ensures { IsHeadRead bytes.now headers.new result }
 {
     match parse_request(bytes, headers) {
         Ok(Status::Complete(spans)) => HeadRead::Whole(spans),
         Ok(Status::Partial) => {
-            if bytes.len() == HEAD_LIMIT || NEWLINE_LIMIT <= newline_count(skip_lines(bytes)) {
+            if bytes.len() == MAX_HEAD_BYTES || MAX_HEAD_LINES <= newline_count(skip_lines(bytes)) {
                 HeadRead::TooLarge
             } else {
                 HeadRead::Unfinished

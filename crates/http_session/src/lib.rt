@@ -21,5 +21,5 @@ pub use laws::one_reading;
 pub use method::Method;
 pub use reader::{NextRequest, Reader};
 pub use reply::{Allow, Body, KEPT_LIMIT, Reply, Status, Text};
-pub use request::{Request, RequestParts};
+pub use request::{MAX_REQUESTS, Request, RequestParts};
 pub use write::{LinkFault, write_reply};

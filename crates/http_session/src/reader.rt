@@ -11,8 +11,8 @@ ghost use Rattle.http_session.specs.Asked.{Asked};
 use crate::bad_request::BadRequest;
 use crate::buffer::Buffer;
 use crate::framing::body_length;
-use crate::head::{HEADER_LIMIT, HeadRead, read_head, skip_lines};
-use crate::request::{REQUEST_LIMIT, Request};
+use crate::head::{MAX_HEADERS, HeadRead, read_head, skip_lines};
+use crate::request::{MAX_REQUESTS, Request};
 use httparse::spans::{EMPTY_HEADER_SPAN, HeaderSpan, RequestSpans};
 use link_trait::{Failed, LAST_MOMENT, Link};
 use std::alloc::Global;
@@ -64,6 +64,7 @@ impl Model for Reader {
 
     ghost Value = { Waiting };
 
+    ghost use Rattle.http_session.specs.Limits.{most_requests};
     ghost use Rattle.http_session.specs.ReaderState.{held_in, is_ended, is_fresh};
 
     ghost view = { λ a. record {
@@ -72,7 +73,7 @@ impl Model for Reader {
       given = a.given;
     } };
 
-    ghost invariant = { λ a. (a.given ≤ 1000000) × (is_fresh a.state ≡ true → a.given ≡ 0) };
+    ghost invariant = { λ a. (a.given ≤ most_requests) × (is_fresh a.state ≡ true → a.given ≡ 0) };
 }
 
 impl Reader {
@@ -111,7 +112,7 @@ impl Reader {
                 Err(_) => return NextRequest::Memory,
             },
         };
-        let number = (self.given + 1).min(REQUEST_LIMIT);
+        let number = (self.given + 1).min(MAX_REQUESTS);
         match take_request(self.alloc, &mut buffer, number, link) {
             Ok(request) => {
                 self.state = State::Open(buffer);
@@ -143,7 +144,7 @@ fn take_request<L: Link>(
     ensures told { Goes (RequestStep number result buffer.old buffer.new)
         (L.told link.old) (L.told link.new) }
 {
-    let mut headers = [EMPTY_HEADER_SPAN; HEADER_LIMIT];
+    let mut headers = [EMPTY_HEADER_SPAN; MAX_HEADERS];
     let spans = take_head(buffer, &mut headers, link)?;
     let text = &buffer.held()[..spans.len];
     let headers = &headers[..spans.headers];
@@ -165,7 +166,7 @@ fn take_request<L: Link>(
 // Fills the buffer until a whole head stands at its front.
 fn take_head<L: Link>(
     buffer: &mut Buffer,
-    headers: &mut [HeaderSpan; HEADER_LIMIT],
+    headers: &mut [HeaderSpan; MAX_HEADERS],
     link: &mut L,
 ) -> Result<RequestSpans, Stop>
     requires open { L.is_open link.old ≡ true }

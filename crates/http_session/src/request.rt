@@ -16,8 +16,8 @@ use httparse::spans::{HeaderSpan, RequestSpans, Span};
 use std::alloc::{AllocError, Global};
 use std::marker::Model;
 
-/// A connection has at most this many requests; the last of them closes it.
-pub(crate) const REQUEST_LIMIT: u32 = 1_000_000;
+/// The most requests of a connection; the last of them closes it.
+pub const MAX_REQUESTS: u32 = 1_000_000;
 
 #[derive(Drop)]
 pub struct Request {
@@ -282,5 +282,5 @@ fn closes(text: &[u8], headers: &[HeaderSpan], spans: &RequestSpans, number: u32
     asks_to_close(text, headers)
         || spans.version == 0
         || spans.method.of(text) == b"HEAD".as_slice()
-        || REQUEST_LIMIT <= number
+        || MAX_REQUESTS <= number
 }

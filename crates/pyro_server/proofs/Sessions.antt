@@ -4,6 +4,7 @@ use Rattle.std.specs.Prelude.{◌||◌, map}
 use Rattle.std.proofs.lemmas.List.{length-map}
 use Rattle.std.proofs.lemmas.List.Concat.{flat_map-append}
 use Rattle.http_session.specs.Asked.{Asked}
+use Rattle.http_session.specs.Limits.{most_requests}
 use Rattle.link_trait.specs.Link.{Told, Passed}
 use Rattle.http_session.specs.Reply.{bytes_of_reply}
 use Rattle.http_session.specs.Takes.{IsWhole, AreRequests, is_closed}
@@ -208,8 +209,8 @@ module _ (facts : Facts) (old new : Waiting) (history next : List Push) (before 
         );
       } in (exchanges ++ one ∷ [], subst E (sym are) ended_, in_turn_then facts [] exchanges history one turn exchange)
 
--- request 1,000,000 asks for closing
-pub last_closes : (asked : Asked) (moment : ℕ) (bytes rest : List ℕ) → IsWhole 1000000 moment bytes asked rest → asked.close ≡ true
+-- the last request that a connection may have asks for closing
+pub last_closes : (asked : Asked) (moment : ℕ) (bytes rest : List ℕ) → IsWhole most_requests moment bytes asked rest → asked.close ≡ true
 last_closes asked moment bytes rest (head, framing, body, after, begins, framed, is_body, is) = ap (λ (a : Asked). a.close) is ∙ or-true _
   where
     or-true : (b : Bool) → (b || true) ≡ true

@@ -3,6 +3,7 @@ use Rattle.std.specs.Prelude.{◌≡◌, ◌≢◌, ◌⊎◌, ℕ, true, false,
 use Rattle.std.specs.List.{flat_map}
 use Rattle.link_trait.specs.Link.{Told, Passed}
 use Rattle.http_session.specs.Asked.{Asked}
+use Rattle.http_session.specs.Limits.{most_requests}
 use Rattle.http_session.specs.Reply.{bytes_of_reply}
 use Rattle.http_session.specs.Takes as takes
 use Rattle.http_session.specs.Takes.{AreRequests, EndsAs, IsPartial, is_closed}
@@ -60,8 +61,8 @@ last_bytes ending moment = []
 -- behind a head; and a link that fails while it is read leaves no whole request.
 abbrev pub EndsSo : List Asked → List ℕ → List ℕ → Ending → Type 0
 EndsSo requests rest to_come Done = EndsAs requests rest takes.done × (to_come ≡ [])
-EndsSo requests rest to_come Closed = EndsAs requests rest takes.closing × (length requests ≢ 1000000)
-EndsSo requests rest to_come LastRequest = EndsAs requests rest takes.closing × (length requests ≡ 1000000)
+EndsSo requests rest to_come Closed = EndsAs requests rest takes.closing × (length requests ≢ most_requests)
+EndsSo requests rest to_come LastRequest = EndsAs requests rest takes.closing × (length requests ≡ most_requests)
 EndsSo requests rest to_come (Refused reason) = EndsAs requests rest (takes.bad reason) × (reason ≡ CutOff → to_come ≡ [])
 EndsSo requests rest to_come NoMemory = (is_closed requests ≡ false) × IsStarvedAt (length requests) rest
 EndsSo requests rest to_come LinkFault = (is_closed requests ≡ false) × IsPartial rest

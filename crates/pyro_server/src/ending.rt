@@ -12,7 +12,7 @@ pub enum Ending {
     Done,
     /// The last request asked for closing, and was answered.
     Closed,
-    /// The last request that a connection may have, number 1,000,000, was answered.
+    /// The last request that a connection may have was answered.
     LastRequest,
     /// What came is no request, for this reason.
     Refused(BadRequest),

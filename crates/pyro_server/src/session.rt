@@ -1,6 +1,7 @@
 // One connection, served to its end.
 ghost use Rattle.std.specs.Prelude.{◌≡◌, ◌≢◌, ◌+◌, ◌<◌, [], true, false, min};
 ghost use Rattle.link_trait.specs.Link.{Goes, Rose};
+ghost use Rattle.http_session.specs.Limits.{most_requests};
 ghost use Rattle.http_session.specs.Reply.{bytes_of_reply};
 ghost use Rattle.http_session.specs.declared.reply.Reply.{Reply};
 ghost use Rattle.push_history.specs.History.{HasBoundedTotals};
@@ -13,14 +14,11 @@ ghost use Rattle.pyro_server.specs.Steps.{GivesBytes, GivesLast, GivesReply, IsA
 use crate::ending::Ending;
 use crate::settle::settle;
 use api_replies::{Answered, acknowledge, answer, closing_reply, memory_reply};
-use http_session::{BadRequest, NextRequest, Reader, Reply, Request, write_reply};
+use http_session::{BadRequest, MAX_REQUESTS, NextRequest, Reader, Reply, Request, write_reply};
 use link_trait::Link;
 use profile_model::Push;
 use request_meaning::Config;
 use std::alloc::Global;
-
-/// A connection closes after this many requests.
-const LAST_REQUEST: u32 = 1_000_000;
 
 /// How a session ended, with all that was handed in.
 #[derive(Drop)]
@@ -76,7 +74,7 @@ fn serve<L: Link>(alloc: Global, stdio: &mut L, history: &mut Vec<Push>, config:
     ensures quiet { result ≢ Ending.LinkFault → L.faults stdio.new ≡ L.faults stdio.old }
 {
     let mut reader = Reader::new(alloc);
-    for number in 1..LAST_REQUEST {
+    for number in 1..MAX_REQUESTS {
         match serve_next(alloc, &mut reader, stdio, history, config) {
             Step::Answered { close: false } => {}
             Step::Answered { close: true } => return Ending::Closed,
@@ -99,11 +97,11 @@ fn serve_next<L: Link>(
 ) -> Step
     requires bounded { HasBoundedTotals history.old.items }
     requires going { reader.old.ended ≡ false }
-    requires number { reader.old.given < 1000000 }
+    requires number { reader.old.given < most_requests }
     requires open { L.is_open stdio.old ≡ true }
     ensures bounded { HasBoundedTotals history.new.items }
     ensures served { Goes (ServesStep (facts_of config.now) reader.old reader.new history.old.items history.new.items result) (L.told stdio.old) (L.told stdio.new) }
-    ensures goes_on { IsAnswered result → (reader.new.ended ≡ false) × (reader.new.given ≡ min (reader.old.given + 1) 1000000) }
+    ensures goes_on { IsAnswered result → (reader.new.ended ≡ false) × (reader.new.given ≡ min (reader.old.given + 1) most_requests) }
     ensures open { result ≢ Step.Over Ending.LinkFault → L.is_open stdio.new ≡ true }
     ensures cause { result ≡ Step.Over Ending.LinkFault → Rose (L.faults stdio.old) (L.faults stdio.new) }
     ensures quiet { result ≢ Step.Over Ending.LinkFault → L.faults stdio.new ≡ L.faults stdio.old }

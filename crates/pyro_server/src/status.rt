@@ -13,7 +13,7 @@ pub enum Status {
     NoMemory,
     /// The standard stream counted a fault.
     StreamFault,
-    /// The connection's last request, number 1,000,000, was answered.
+    /// The last request that a connection may have was answered.
     LastRequest,
     /// The connection's bytes were no request.
     BadRequest,

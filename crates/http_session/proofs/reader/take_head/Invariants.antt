@@ -1,5 +1,6 @@
 use Rattle.std.proofs.Common.{◌≡◌, ◌-◌, true, length}
 use Rattle.link_trait.specs.Link.{Goes}
+use Rattle.http_session.specs.Limits.{most_head_bytes}
 use Rattle.http_session.specs.Pulled.{Pulled}
 use Rattle.http_session.proofs.reader.take_head.Given as goal
 
@@ -11,4 +12,4 @@ invariant-loop-spans g l = record {
 }
 
 abbrev pub decreases-loop-spans : goal.decreases-loop-spans
-decreases-loop-spans g l = 16384 - length l.buffer
+decreases-loop-spans g l = most_head_bytes - length l.buffer

@@ -1,4 +1,5 @@
 use Rattle.std.proofs.Common.{◌≡◌, ◌+◌, ◌<◌, ◌∙◌, false, refl, ap, subst, arith, lit<, ℕ}
+use Rattle.http_session.specs.Limits.{most_requests}
 use Rattle.http_session.specs.Waiting.{Waiting}
 use Rattle.http_session.specs.Takes.{IsWhole}
 use Rattle.link_trait.proofs.GoesLemmas.{goes_then, goes_nowhere}
@@ -64,7 +65,7 @@ returns-in-Answered-clause-in_turn g c =
     let before = c.loop-number.invariant.number in
     let high = c.loop-number-test.false in
     let low = c.loop-number.auto.number-end in
-    let last : c.loop-number.reader.given + 1 ≡ 1000000 = omega arith in
+    let last : c.loop-number.reader.given + 1 ≡ most_requests = omega arith in
     let number : c.serve_next-2.new.reader.given ≡ c.loop-number.reader.given + 1 = omega arith in
     goes_then _ _ _ _ _ _
     (λ start between now far step. closed (facts_of c.args.config.now) c.loop-number.reader c.serve_next-2.new.reader c.loop-number.history.items c.serve_next-2.new.history.items start between now

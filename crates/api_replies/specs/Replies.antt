@@ -32,8 +32,8 @@ use Rattle.request_meaning.specs.declared.ask.RenderAsk.{RenderAsk}
 use Rattle.request_meaning.specs.declared.form.PushForm.{PushForm}
 use Rattle.request_meaning.specs.declared.form.PushForm.TheVariants as written
 use Rattle.request_meaning.specs.declared.refusal.Refusal.{Refusal}
-use Rattle.api_replies.specs.declared.verdict.FirstVerdict.{FirstVerdict}
-use Rattle.api_replies.specs.declared.verdict.FirstVerdict.TheVariants as verdict
+use Rattle.api_replies.specs.declared.verdict.Verdict.{Verdict}
+use Rattle.api_replies.specs.declared.verdict.Verdict.TheVariants as verdict
 
 -- an answer of this kind of text, and the front that it counts
 abbrev pub answering : Text → List ℕ → ℕ → ℕ → Bool → Reply
@@ -53,7 +53,7 @@ kept_body written.Json = codes "{}"
 abbrev pub reply_for_kept : PushForm → ℕ → ℕ → Bool → Reply
 reply_for_kept form = answering (kept_text form) (kept_body form)
 
-abbrev pub reply_for_verdict : FirstVerdict → PushForm → ℕ → Bool → Reply
+abbrev pub reply_for_verdict : Verdict → PushForm → ℕ → Bool → Reply
 reply_for_verdict (verdict.Kept front) form now close = reply_for_kept form front now close
 reply_for_verdict (verdict.OverLimit kept push limit front) form now close =
     record { status = status.UnprocessableContent; text = Json; body = limit_body push kept limit; allow = None; front = Some front; now = now; close = close }
@@ -109,6 +109,6 @@ abbrev pub IsExcused : Facts → Asked → Reply → Type 0
 IsExcused facts asked reply = TakesMemory facts asked × (reply ≡ reply_for_memory asked.moment asked.close)
 
 -- what is answered: the reply, or what else may come; or the write that the request is
-abbrev pub IsAnswer : Facts → Asked → List Push → Answered → Type 0
-IsAnswer facts asked history (answered.Reply reply) = IsReply facts asked history reply ⊎ IsExcused facts asked reply
-IsAnswer facts asked history (answered.Push form push) = IsWrite facts asked form push
+abbrev pub IsAnswered : Facts → Asked → List Push → Answered → Type 0
+IsAnswered facts asked history (answered.Reply reply) = IsReply facts asked history reply ⊎ IsExcused facts asked reply
+IsAnswered facts asked history (answered.Push form push) = IsWrite facts asked form push

@@ -3,7 +3,7 @@ ghost use Rattle.std.specs.Prelude.{◌≡◌, ◌⊎◌};
 ghost use Rattle.push_history.specs.History.{HasBoundedTotals};
 ghost use Rattle.request_meaning.specs.Facts.{facts_of};
 ghost use Rattle.api_replies.specs.Refusals.{reply_for_memory};
-ghost use Rattle.api_replies.specs.Replies.{IsAnswer, answer_to, answering};
+ghost use Rattle.api_replies.specs.Replies.{IsAnswered, answer_to, answering};
 
 use crate::labels::listed_text;
 use crate::refusal::{memory_reply, refusal_reply};
@@ -26,7 +26,7 @@ pub enum Answered {
 /// The reply to a request over the pushes that were accepted before it, or its push.
 pub fn answer(alloc: Global, request: &Request, history: &[Push], config: &Config) -> Answered
     requires { HasBoundedTotals history.now }
-    ensures answer { IsAnswer (facts_of config.now) request.now history.now result }
+    ensures answer { IsAnswered (facts_of config.now) request.now history.now result }
 {
     match meaning_of(alloc, request, config) {
         Ok(Meaning::Write(form, push)) => Answered::Push(form, push),

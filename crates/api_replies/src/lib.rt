@@ -14,4 +14,4 @@ mod verdict;
 pub use answered::{Answered, answer};
 pub use laws::one_or_the_other;
 pub use refusal::{closing_reply, memory_reply};
-pub use verdict::{FirstVerdict, acknowledge};
+pub use verdict::{Verdict, acknowledge};

@@ -1,5 +1,5 @@
 // The replies down to their bodies, and that requests are read with ample memory.
-use crate::{Answered, FirstVerdict, acknowledge, answer, closing_reply, memory_reply};
+use crate::{Answered, Verdict, acknowledge, answer, closing_reply, memory_reply};
 use http_session::{BadRequest, NextRequest, Reader, Reply, Request, Status, Text};
 use link_trait::MemoryLink;
 use request_meaning::{Config, PushForm};
@@ -80,7 +80,7 @@ fn queries_before_any_push_are_answered_with_nothing(rt: HostRuntime) -> Result<
 
 // Whether a verdict is told so.
 fn tells(
-    verdict: FirstVerdict,
+    verdict: Verdict,
     form: PushForm,
     status: Status,
     text: Text,
@@ -93,7 +93,7 @@ fn tells(
 
 #[test]
 fn a_push_over_the_limit_is_told_the_three_numbers(rt: HostRuntime) {
-    let verdict = FirstVerdict::OverLimit {
+    let verdict = Verdict::OverLimit {
         kept: 10,
         push: 1,
         limit: 10,
@@ -114,7 +114,7 @@ fn a_push_over_the_limit_is_told_the_three_numbers(rt: HostRuntime) {
 
 #[test]
 fn a_kept_push_is_told_its_front(rt: HostRuntime) {
-    let (ingest, push) = (FirstVerdict::Kept(7), FirstVerdict::Kept(8));
+    let (ingest, push) = (Verdict::Kept(7), Verdict::Kept(8));
     assert!(rt;
         tells(
             ingest,
@@ -133,7 +133,7 @@ fn want_of_memory_is_told(rt: HostRuntime) {
     let (status, body) = (Status::InternalServerError, "{\"fault\":\"memory\"}");
     assert!(rt;
         tells(
-            FirstVerdict::Memory,
+            Verdict::Memory,
             PushForm::Json,
             status,
             Text::Json,

@@ -10,7 +10,7 @@ use request_meaning::PushForm;
 
 /// What became of a push.
 #[derive(Clone, Copy, Debug, PartialEq, Eq)]
-pub enum FirstVerdict {
+pub enum Verdict {
     /// It was kept as the last of so many pushes of its tenant.
     Kept(u64),
     /// The tenant's total and the push's would pass the tenant's limit.
@@ -25,12 +25,12 @@ pub enum FirstVerdict {
 }
 
 /// The reply that tells a verdict. It takes no memory.
-pub fn acknowledge(verdict: FirstVerdict, form: PushForm, now: u64, close: bool) -> Reply
+pub fn acknowledge(verdict: Verdict, form: PushForm, now: u64, close: bool) -> Reply
     ensures { result ≡ reply_for_verdict verdict form now close }
 {
     match verdict {
-        FirstVerdict::Kept(front) => kept_reply(front, form, now, close),
-        FirstVerdict::OverLimit {
+        Verdict::Kept(front) => kept_reply(front, form, now, close),
+        Verdict::OverLimit {
             kept,
             push,
             limit,
@@ -44,7 +44,7 @@ pub fn acknowledge(verdict: FirstVerdict, form: PushForm, now: u64, close: bool)
             now,
             close,
         },
-        FirstVerdict::Memory => memory_reply(now, close),
+        Verdict::Memory => memory_reply(now, close),
     }
 }
 

@@ -11,6 +11,6 @@ whole_range xs end is = take_all (end - 0) xs (omega arith)
 -- requests of equal parts are equal
 pub same_asked : (method : Method) (body : List ℕ) (close : Bool) (moment : ℕ) (p p' q q' : List ℕ) (t t' a a' e e' : Option (List ℕ)) →
     p ≡ p' → q ≡ q' → t ≡ t' → a ≡ a' → e ≡ e' →
-    (let one : Asked = record { method = method; path = p; query = q; body = body; tenant = t; asked = a; encoding = e; close = close; moment = moment } in one)
-    ≡ record { method = method; path = p'; query = q'; body = body; tenant = t'; asked = a'; encoding = e'; close = close; moment = moment }
-same_asked method body close moment p p' q q' t t' a a' e e' path query tenant asked encoding = cc
+    (let one : Asked = record { method = method; path = p; query = q; body = body; tenant = t; front = a; encoding = e; close = close; moment = moment } in one)
+    ≡ record { method = method; path = p'; query = q'; body = body; tenant = t'; front = a'; encoding = e'; close = close; moment = moment }
+same_asked method body close moment p p' q q' t t' a a' e e' path query tenant front encoding = cc

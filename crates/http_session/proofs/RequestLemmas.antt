@@ -11,7 +11,7 @@ use Rattle.http_session.specs.Heads.{BeginsWithHead, headers_of}
 use Rattle.http_session.specs.Framing.{sized, result_map, body_length_of}
 use Rattle.http_session.specs.Asked.{Asked, asked_of}
 use Rattle.http_session.specs.Takes.{IsBad, IsPartial}
-use Rattle.http_session.specs.Answers.{IsBadAt}
+use Rattle.http_session.specs.NextRequests.{IsBadAt}
 use Rattle.http_session.specs.Steps.{StopsAt, BodyStep, RequestStep, IsBodyOf}
 use Rattle.http_session.specs.declared.bad_request.BadRequest.{BadRequest}
 use Rattle.http_session.specs.declared.bad_request.BadRequest.TheVariants as why

@@ -3,7 +3,7 @@ use Rattle.std.proofs.Common.{◌≡◌, ℕ, ◌+◌, List, [], ◌∷◌, ◌+
 use Rattle.std.proofs.lemmas.Bool.{true≢false}
 use Rattle.http_session.specs.Asked.{Asked}
 use Rattle.http_session.specs.Takes.{IsWhole, AreRequests, is_closed}
-use Rattle.http_session.proofs.TakesLemmas.{whole_stays, goes_on}
+use Rattle.http_session.proofs.TakesLemmas.{whole_stays, leaves_open}
 
 -- a request, and others behind it
 pub requests_before : (number moment : ℕ) (bytes after : List ℕ) (asked : Asked) (requests : List Asked) (rest : List ℕ) →
@@ -26,7 +26,7 @@ requests_then number moment bytes (q ∷ []) rest asked after (mid, first, shut,
 requests_then number moment bytes (q ∷ p ∷ requests) rest asked after (mid, first, shut, are) on whole =
     let Q : ℕ → Type 0 = λ n. IsWhole n moment rest asked after in
     let at : number + length (q ∷ p ∷ requests) ≡ (number + 1) + length (p ∷ requests) = omega arith in
-    requests_before number moment bytes mid q ((p ∷ requests) ++ asked ∷ []) after first (goes_on q p requests shut)
+    requests_before number moment bytes mid q ((p ∷ requests) ++ asked ∷ []) after first (leaves_open q p requests shut)
     (requests_then (number + 1) moment mid (p ∷ requests) rest asked after are on (subst Q at whole))
 
 -- they stay where more bytes come, which are then behind their rest

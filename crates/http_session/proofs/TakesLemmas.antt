@@ -11,7 +11,7 @@ use Rattle.http_session.specs.Heads.{BeginsWithHead, IsHeadTooLarge, headers_of}
 use Rattle.http_session.specs.Framing.{Framing, sized, framing_of, IsBody, IsCutBody}
 use Rattle.http_session.specs.Asked.{Asked, asked_of}
 use Rattle.http_session.specs.Takes.{IsWhole, HasBadLength, IsInside, IsBad, Ending, done, closing, bad, AreRequests, is_closed, EndsAs}
-use Rattle.http_session.specs.TakesLaws.{WholeStays, WholeIsOne, RequestsAreOne, AnsweredOfAll}
+use Rattle.http_session.specs.TakesLaws.{WholeStays, WholeIsOne, RequestsAreOne, TakenOfAll}
 use Rattle.http_session.specs.declared.bad_request.BadRequest.{BadRequest}
 use Rattle.http_session.specs.declared.bad_request.BadRequest.TheVariants.{Malformed, HeadTooLarge, BodyTooLarge, Chunked, CutOff}
 use Rattle.http_session.proofs.RequestLemmas.{head_stays}
@@ -125,8 +125,8 @@ no_end number moment bytes rest asked requests (bad e) whole on ends = not_bad n
 -- ---- the requests
 
 -- a request that another follows doesn't ask for closing
-pub goes_on : (asked other : Asked) (more : List Asked) → (asked.close ≡ true → other ∷ more ≡ []) → asked.close ≡ false
-goes_on asked other more shut = false_from_ne_true asked.close (λ closes. let none : other ∷ more ≡ [] = shut closes in absurd (cc))
+pub leaves_open : (asked other : Asked) (more : List Asked) → (asked.close ≡ true → other ∷ more ≡ []) → asked.close ≡ false
+leaves_open asked other more shut = false_from_ne_true asked.close (λ closes. let none : other ∷ more ≡ [] = shut closes in absurd (cc))
 
 -- what an ending says of the requests is whether the last asks for closing
 ends_for : (requests others : List Asked) (rest : List ℕ) (ending : Ending) → is_closed others ≡ is_closed requests → EndsAs requests rest ending → EndsAs others rest ending
@@ -155,11 +155,11 @@ same_requests number moment bytes (q ∷ []) (r ∷ []) rest left ending last (a
     (ap (λ (x : Asked). x ∷ []) one.0, are ∙ one.1 ∙ sym again)
 same_requests number moment bytes (q ∷ []) (r ∷ s ∷ others) rest left ending last (after, whole, shut, are) ends (after', whole', shut', (after'', whole'', shut'', more)) lasts =
     let one = whole_is_one number moment bytes after after' q r whole whole' in
-    let on : q.close ≡ false = ap (λ (x : Asked). x.close) one.0 ∙ goes_on r s others shut' in
+    let on : q.close ≡ false = ap (λ (x : Asked). x.close) one.0 ∙ leaves_open r s others shut' in
     absurd (no_more (number + 1) moment after' rest after'' s (q ∷ []) ending whole'' on (are ∙ one.1) ends)
 same_requests number moment bytes (q ∷ p ∷ requests) (r ∷ []) rest left ending last (after, whole, shut, (after', whole', shut', more)) ends (after'', whole'', shut'', again) lasts =
     let one = whole_is_one number moment bytes after after'' q r whole whole'' in
-    let on : r.close ≡ false = ap (λ (x : Asked). x.close) (sym one.0) ∙ goes_on q p requests shut in
+    let on : r.close ≡ false = ap (λ (x : Asked). x.close) (sym one.0) ∙ leaves_open q p requests shut in
     absurd (no_more (number + 1) moment after left after' p (r ∷ []) last whole' on (again ∙ sym one.1) lasts)
 same_requests number moment bytes (q ∷ p ∷ requests) (r ∷ s ∷ others) rest left ending last (after, whole, shut, are) ends (after', whole', shut', again) lasts =
     let one = whole_is_one number moment bytes after after' q r whole whole' in
@@ -172,13 +172,13 @@ pub requests_are_one : RequestsAreOne
 requests_are_one number moment bytes requests others ending last (rest, are, ends) (left, again, lasts) =
     (same_requests number moment bytes requests others rest left ending last are ends again lasts).0
 
--- ---- what a reader answers
+-- ---- what a reader gives
 
 -- what was held and came, and what is still to come, is all
 pub all_of : (held piece : List ℕ) (before now : Told) → Took piece before now → (held ++ piece) ++ now.to_come ≡ held ++ before.to_come
 all_of held piece before now took = append_assoc held piece now.to_come ∙ ap (λ (xs : List ℕ). held ++ xs) (sym took.to_come)
 
-pub answered_of_all : AnsweredOfAll
-answered_of_all old new before now asked (piece, took, whole) =
+pub taken_of_all : TakenOfAll
+taken_of_all old new before now asked (piece, took, whole) =
     let P : List ℕ → Type 0 = λ xs. IsWhole new.given before.moment xs asked (new.held ++ now.to_come) in
     subst P (all_of old.held piece before now took) (whole_stays new.given before.moment (old.held ++ piece) now.to_come new.held asked whole)

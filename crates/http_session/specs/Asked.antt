@@ -15,7 +15,7 @@ pub record Asked : Type 0 where
   pub body : List ℕ
   -- the first header X-Scope-OrgID, X-Pyro-Front and Content-Encoding, none where it is absent
   pub tenant : Option (List ℕ)
-  pub asked : Option (List ℕ)
+  pub front : Option (List ℕ)
   pub encoding : Option (List ℕ)
   -- whether the connection closes after the reply
   pub close : Bool
@@ -46,7 +46,7 @@ asked_of number moment head body = record {
   query = query_of head.target;
   body = body;
   tenant = first_named (codes "x-scope-orgid") (headers_of head);
-  asked = first_named (codes "x-pyro-front") (headers_of head);
+  front = first_named (codes "x-pyro-front") (headers_of head);
   encoding = first_named (codes "content-encoding") (headers_of head);
   close = closes number head;
   moment = moment;

@@ -3,11 +3,11 @@ use Rattle.std.specs.Prelude.{◌≡◌, ℕ, List, ◌++◌, length, Option, If
 use Rattle.httparse.specs.declared.spans.Span.{Span}
 use Rattle.httparse.specs.Spans.{IsWithin}
 
-pub record IsInHead (head : List ℕ) (path query : Span) (tenant asked encoding : Option Span) : Type 0 where
+pub record IsInHead (head : List ℕ) (path query : Span) (tenant front encoding : Option Span) : Type 0 where
   pub path_within : IsWithin (length head) path
   pub query_within : IsWithin (length head) query
   pub tenant_within : IfSome tenant (IsWithin (length head))
-  pub asked_within : IfSome asked (IsWithin (length head))
+  pub front_within : IfSome front (IsWithin (length head))
   pub encoding_within : IfSome encoding (IsWithin (length head))
 
 -- the bytes are those, with more behind them

@@ -6,7 +6,7 @@ use Rattle.httparse.specs.Grammar.{RequestHead}
 use Rattle.http_session.specs.Heads.{BeginsWithHead}
 use Rattle.http_session.specs.Asked.{Asked}
 use Rattle.http_session.specs.Takes.{IsWhole, IsPartial}
-use Rattle.http_session.specs.Answers.{IsBadAt, IsEndAt}
+use Rattle.http_session.specs.NextRequests.{IsBadAt, IsEndAt}
 use Rattle.http_session.specs.declared.bad_request.BadRequest.TheVariants.{CutOff}
 use Rattle.http_session.specs.declared.reader.Stop.{Stop}
 use Rattle.http_session.specs.declared.reader.Stop.TheVariants as stop

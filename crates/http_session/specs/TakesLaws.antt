@@ -5,8 +5,8 @@ use Rattle.link_trait.specs.Link.{Told}
 use Rattle.http_session.specs.Takes.{IsWhole, IsBetween, IsBad, IsAtEnd, Ending, done, closing, bad, TakesFrom}
 use Rattle.http_session.specs.declared.bad_request.BadRequest.{BadRequest}
 use Rattle.http_session.specs.declared.bad_request.BadRequest.TheVariants.{Malformed, HeadTooLarge, CutOff}
-use Rattle.http_session.specs.Waiting.{Waiting}
-use Rattle.http_session.specs.Answers.{AnswerStep}
+use Rattle.http_session.specs.Progress.{Progress}
+use Rattle.http_session.specs.NextRequests.{NextStep}
 use Rattle.http_session.specs.declared.reader.NextRequest.TheVariants.{Request, End, Bad}
 
 -- a whole request stays the same where more bytes come, which are then behind its rest
@@ -56,21 +56,21 @@ TakesStay =
     (number moment : ℕ) (bytes more : List ℕ) (requests : List Asked) (ending : Ending)
     → TakesFrom number moment bytes requests ending → (IsAtEnd ending → more ≡ []) → TakesFrom number moment (bytes ++ more) requests ending
 
--- The request that a reader answers is the whole request of the bytes held and all of the input still to
+-- The request that a reader gives is the whole request of the bytes held and all of the input still to
 -- come, and what is then held and still to come is its rest, however the link cuts its input.
-abbrev pub AnsweredOfAll : Type 0
-AnsweredOfAll =
-    (old new : Waiting) (before now : Told) (asked : Asked)
-    → AnswerStep (Request asked) old new before now
+abbrev pub TakenOfAll : Type 0
+TakenOfAll =
+    (old new : Progress) (before now : Told) (asked : Asked)
+    → NextStep (Request asked) old new before now
     → IsWhole new.given before.moment (old.held ++ before.to_come) asked (new.held ++ now.to_come)
 
 -- And so are the end of the input and the reason why it is no request, which are those of all of it.
 abbrev pub EndedOfAll : Type 0
 EndedOfAll =
-    (old new : Waiting) (before now : Told)
-    → AnswerStep End old new before now → IsBetween (old.held ++ before.to_come)
+    (old new : Progress) (before now : Told)
+    → NextStep End old new before now → IsBetween (old.held ++ before.to_come)
 
 abbrev pub RefusedOfAll : Type 0
 RefusedOfAll =
-    (old new : Waiting) (before now : Told) (reason : BadRequest)
-    → AnswerStep (Bad reason) old new before now → IsBad (old.held ++ before.to_come) reason
+    (old new : Progress) (before now : Told) (reason : BadRequest)
+    → NextStep (Bad reason) old new before now → IsBad (old.held ++ before.to_come) reason

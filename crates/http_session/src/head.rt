@@ -6,8 +6,8 @@ ghost use Rattle.http_session.specs.HeadRead.{IsHeadRead};
 ghost use Rattle.http_session.specs.Heads.{after_lines, newlines, all_named, first_named};
 ghost use Rattle.http_session.specs.Named.{IsNamed};
 
+use httparse::Error;
 use httparse::spans::{HeaderSpan, RequestSpans, Span, parse_request};
-use httparse::{Error, Status};
 
 /// The most bytes of a head, with the CR and LF bytes before it.
 pub(crate) const MAX_HEAD_BYTES: usize = 16_384;
@@ -32,8 +32,8 @@ pub(crate) fn read_head(bytes: &[u8], headers: &mut [HeaderSpan; MAX_HEADERS]) -
     ensures { IsHeadRead bytes.now headers.new result }
 {
     match parse_request(bytes, headers) {
-        Ok(Status::Complete(spans)) => HeadRead::Whole(spans),
-        Ok(Status::Partial) => {
+        Ok(httparse::Status::Complete(spans)) => HeadRead::Whole(spans),
+        Ok(httparse::Status::Partial) => {
             if bytes.len() == MAX_HEAD_BYTES || MAX_HEAD_LINES <= newline_count(skip_lines(bytes)) {
                 HeadRead::TooLarge
             } else {

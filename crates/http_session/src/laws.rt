@@ -1,5 +1,5 @@
 //! What holds of every reading of a connection's bytes.
-ghost use Rattle.http_session.specs.TakesLaws.{WholeStays, WholeIsOne, RequestsAreOne, EndingsAgree, AnsweredOfAll, TakesStay, EndedOfAll, RefusedOfAll};
+ghost use Rattle.http_session.specs.TakesLaws.{WholeStays, WholeIsOne, RequestsAreOne, EndingsAgree, TakenOfAll, TakesStay, EndedOfAll, RefusedOfAll};
 
 /// The requests of a connection's bytes are one list, and stay so however much more comes.
 pub fn one_reading()
@@ -8,7 +8,7 @@ pub fn one_reading()
     ensures requests { RequestsAreOne }
     ensures endings { EndingsAgree }
     ensures stay { TakesStay }
-    ensures of_all { AnsweredOfAll }
+    ensures of_all { TakenOfAll }
     ensures ended { EndedOfAll }
     ensures refused { RefusedOfAll }
 {}

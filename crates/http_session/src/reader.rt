@@ -3,7 +3,7 @@ ghost use Rattle.std.specs.Prelude.{◌≡◌, ◌≢◌, ◌≤◌, ℕ, [], fa
 ghost use Rattle.httparse.specs.Grammar.{RequestHead};
 ghost use Rattle.link_trait.specs.Link.{Told, Goes, Rose};
 ghost use Rattle.http_session.specs.HeadRead.{IsHeadAt};
-ghost use Rattle.http_session.specs.Answers.{Continues, AnswerStep, StaysOpen};
+ghost use Rattle.http_session.specs.NextRequests.{Continues, NextStep, StaysOpen};
 ghost use Rattle.http_session.specs.Steps.{IsFaultOf, IsOpenAfter, IsQuiet, StopsAt, HeadStep, BodyStep, RestStep, RequestStep};
 ghost use Rattle.http_session.specs.Heads.{IsUnfinished};
 ghost use Rattle.http_session.specs.Asked.{Asked};
@@ -11,7 +11,7 @@ ghost use Rattle.http_session.specs.Asked.{Asked};
 use crate::bad_request::BadRequest;
 use crate::buffer::Buffer;
 use crate::framing::body_length;
-use crate::head::{MAX_HEADERS, HeadRead, read_head, skip_lines};
+use crate::head::{HeadRead, MAX_HEADERS, read_head, skip_lines};
 use crate::request::{MAX_REQUESTS, Request};
 use httparse::spans::{EMPTY_HEADER_SPAN, HeaderSpan, RequestSpans};
 use link_trait::{Failed, LAST_MOMENT, Link};
@@ -19,11 +19,11 @@ use std::alloc::Global;
 use std::marker::Model;
 use std::mem;
 
-/// What a reader answers.
+/// What comes next on a connection.
 #[derive(Drop)]
 pub enum NextRequest {
     Request(Request),
-    /// The input ended between requests, or an earlier answer wasn't a request.
+    /// The input ended between requests, or what came before wasn't a request.
     End,
     Bad(BadRequest),
     /// The link failed; this is its count of faults.
@@ -60,9 +60,9 @@ pub struct Reader {
 
 impl Model for Reader {
     ghost use Rattle.std.specs.Prelude.{◌≡◌, ◌≤◌, true};
-    ghost use Rattle.http_session.specs.Waiting.{Waiting};
+    ghost use Rattle.http_session.specs.Progress.{Progress};
 
-    ghost Value = { Waiting };
+    ghost Value = { Progress };
 
     ghost use Rattle.http_session.specs.Limits.{most_requests};
     ghost use Rattle.http_session.specs.ReaderState.{held_in, is_ended, is_fresh};
@@ -88,7 +88,7 @@ impl Reader {
         }
     }
 
-    /// The next request of the connection. After any answer but a request it answers `End`.
+    /// The next request of the connection. After anything but a request comes `End`.
     pub fn next_request<L: Link>(&mut self, link: &mut L) -> NextRequest
         requires open { self.old.ended ≡ false → L.is_open link.old ≡ true }
         ensures open { L.is_open link.old ≡ true → StaysOpen (L.is_open link.new) result }
@@ -102,7 +102,7 @@ impl Reader {
             → request.moment ≤ LAST_MOMENT }
         ensures ends { Continues result self.old self.new }
         ensures next { self.old.ended ≡ false
-            → Goes (AnswerStep result self.old self.new) (L.told link.old) (L.told link.new) }
+            → Goes (NextStep result self.old self.new) (L.told link.old) (L.told link.new) }
     {
         let mut buffer = match mem::replace(&mut self.state, State::Ended) {
             State::Ended => return NextRequest::End,

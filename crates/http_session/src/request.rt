@@ -26,7 +26,7 @@ pub struct Request {
     path: Span,
     query: Span,
     tenant: Option<Span>,
-    asked: Option<Span>,
+    front: Option<Span>,
     encoding: Option<Span>,
     body: Vec<u8>,
     close: bool,
@@ -40,7 +40,7 @@ pub struct RequestParts<'a> {
     /// The path, and behind a question mark the query.
     pub target: &'a [u8],
     pub tenant: Option<&'a [u8]>,
-    pub asked: Option<&'a [u8]>,
+    pub front: Option<&'a [u8]>,
     pub encoding: Option<&'a [u8]>,
     pub close: bool,
     pub moment: u64,
@@ -61,13 +61,13 @@ impl Model for Request {
       query = span_bytes a.head.items a.query;
       body = a.body.items;
       tenant = option_map (span_bytes a.head.items) a.tenant;
-      asked = option_map (span_bytes a.head.items) a.asked;
+      front = option_map (span_bytes a.head.items) a.front;
       encoding = option_map (span_bytes a.head.items) a.encoding;
       close = a.close;
       moment = a.moment;
     } };
 
-    ghost invariant = { λ a. IsInHead a.head.items a.path a.query a.tenant a.asked a.encoding };
+    ghost invariant = { λ a. IsInHead a.head.items a.path a.query a.tenant a.front a.encoding };
 }
 
 impl Request {
@@ -86,7 +86,7 @@ impl Request {
             → IfOk result (λ request. request ≡ asked_of number 0 head []) }
     {
         let tenant = find_header(text, headers, b"x-scope-orgid");
-        let asked = find_header(text, headers, b"x-pyro-front");
+        let front = find_header(text, headers, b"x-pyro-front");
         let encoding = find_header(text, headers, b"content-encoding");
         let (path, query) = split_target(text, spans.path);
         let close = closes(text, headers, spans, number);
@@ -96,7 +96,7 @@ impl Request {
             path,
             query,
             tenant,
-            asked,
+            front,
             encoding,
             body: Vec::new(alloc),
             close,
@@ -116,7 +116,7 @@ impl Request {
         let end = head.len();
         let (path, query) = split_target(&head, Span { start: 0, end });
         let tenant = keep(&mut head, parts.tenant)?;
-        let asked = keep(&mut head, parts.asked)?;
+        let front = keep(&mut head, parts.front)?;
         let encoding = keep(&mut head, parts.encoding)?;
         Ok(Request {
             head,
@@ -124,7 +124,7 @@ impl Request {
             path,
             query,
             tenant,
-            asked,
+            front,
             encoding,
             body,
             close: parts.close,
@@ -183,10 +183,10 @@ impl Request {
     }
 
     /// The value of the first header X-Pyro-Front.
-    pub fn asked(&self) -> Option<&[u8]>
-        ensures { option_map (λ value. value.now) result ≡ self.now.asked }
+    pub fn front(&self) -> Option<&[u8]>
+        ensures { option_map (λ value. value.now) result ≡ self.now.front }
     {
-        value_in(&self.head, self.asked)
+        value_in(&self.head, self.front)
     }
 
     /// The value of the first header Content-Encoding.

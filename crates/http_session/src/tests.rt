@@ -44,7 +44,7 @@ fn expect_first(rt: &(impl Abort + Eprint), request: &Request) {
     assert_eq!(rt; request.query(), b"name=app".as_slice());
     assert_eq!(rt; request.body(), b"main;a 3\n".as_slice());
     assert!(rt; request.tenant() == Some(b"t1".as_slice()));
-    assert!(rt; request.asked().is_none() && request.encoding().is_none());
+    assert!(rt; request.front().is_none() && request.encoding().is_none());
     assert!(rt; !request.close() && request.moment() == NOW);
 }
 
@@ -84,7 +84,7 @@ fn a_request_is_made_of_its_parts(rt: HostRuntime) -> Result<(), Fail> {
         method: Method::Post,
         target: b"/ingest?name=app",
         tenant: Some(b"t1"),
-        asked: None,
+        front: None,
         encoding: Some(b""),
         close: true,
         moment: 5,
@@ -95,7 +95,7 @@ fn a_request_is_made_of_its_parts(rt: HostRuntime) -> Result<(), Fail> {
     assert_eq!(rt; request.path(), b"/ingest".as_slice());
     assert_eq!(rt; request.query(), b"name=app".as_slice());
     assert!(rt; request.tenant() == Some(b"t1".as_slice()));
-    assert!(rt; request.asked().is_none());
+    assert!(rt; request.front().is_none());
     assert!(rt; request.encoding() == Some(b"".as_slice()));
     assert!(rt; request.close() && request.moment() == 5);
     assert_eq!(rt; request.into_body().as_slice(), b"a 1\n".as_slice());

@@ -8,8 +8,8 @@ use Rattle.http_session.specs.Asked.{Asked}
 use Rattle.http_session.specs.declared.reply.Reply.{Reply}
 use Rattle.profile_model.specs.declared.push.Push.{Push}
 use Rattle.request_meaning.specs.Facts.{Facts}
-use Rattle.api_replies.specs.declared.verdict.FirstVerdict.{FirstVerdict}
-use Rattle.api_replies.specs.declared.verdict.FirstVerdict.TheVariants.{Kept, OverLimit, Memory}
+use Rattle.api_replies.specs.declared.verdict.Verdict.{Verdict}
+use Rattle.api_replies.specs.declared.verdict.Verdict.TheVariants.{Kept, OverLimit, Memory}
 use Rattle.pyro_server.specs.Settled.{IsSettled}
 use Rattle.pyro_server.specs.Served.{Exchange, IsExchange, InTurn}
 use Rattle.pyro_server.specs.ServedLaws.{HistoryGrows, KeepsItsPlace}
@@ -18,7 +18,7 @@ use Rattle.pyro_server.specs.ServedLaws.{HistoryGrows, KeepsItsPlace}
 stays : (history next : List Push) → next ≡ history → (later : List Push) × (next ≡ history ++ later)
 stays history next same = ([], same ∙ sym (append-nil history))
 
-settled_grows : (limit : ℕ) (history next : List Push) (push : Push) (verdict : FirstVerdict) → IsSettled limit history push verdict next
+settled_grows : (limit : ℕ) (history next : List Push) (push : Push) (verdict : Verdict) → IsSettled limit history push verdict next
     → (later : List Push) × (next ≡ history ++ later)
 settled_grows limit history next push (Kept front) settled = (push ∷ [], settled.2)
 settled_grows limit history next push (OverLimit kept adds told front) settled = stays history next settled.5

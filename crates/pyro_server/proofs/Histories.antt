@@ -12,8 +12,8 @@ use Rattle.request_meaning.specs.Forms.{tenant_of}
 use Rattle.request_meaning.specs.Meanings.{IsWrite}
 use Rattle.api_replies.proofs.ReplyLemmas.{answers_no_write, own_again, reply_alike, shows_its_front, writer_is_named}
 use Rattle.request_meaning.specs.declared.form.PushForm.{PushForm}
-use Rattle.api_replies.specs.declared.verdict.FirstVerdict.{FirstVerdict}
-use Rattle.api_replies.specs.declared.verdict.FirstVerdict.TheVariants.{Kept, OverLimit, Memory}
+use Rattle.api_replies.specs.declared.verdict.Verdict.{Verdict}
+use Rattle.api_replies.specs.declared.verdict.Verdict.TheVariants.{Kept, OverLimit, Memory}
 use Rattle.pyro_server.specs.Given.{Answer}
 use Rattle.pyro_server.specs.Settled.{IsSettled}
 use Rattle.pyro_server.specs.Served.{IsExchange}
@@ -29,7 +29,7 @@ own_stays : (history : List Push) (named : Option (List ℕ)) (tenant : List ℕ
 own_stays history named tenant is = sym (ap (λ (own : List Push). pushes_of own tenant) (ap (own_pushes history) is) ∙ own_again history tenant)
 
 -- what becomes of a push depends on the pushes of its tenant alone
-settled_alike : (limit : ℕ) (history other next : List Push) (push : Push) (verdict : FirstVerdict) → pushes_of history push.tenant ≡ pushes_of other push.tenant
+settled_alike : (limit : ℕ) (history other next : List Push) (push : Push) (verdict : Verdict) → pushes_of history push.tenant ≡ pushes_of other push.tenant
     → IsSettled limit history push verdict next → (left : List Push) × IsSettled limit other push verdict left
 settled_alike limit history other next push (Kept front) same (told, room, kept) =
     (other ++ push ∷ [], (told ∙ ap (λ (own : List Push). length own + 1) same, rw same at room, refl))

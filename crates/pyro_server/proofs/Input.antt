@@ -12,7 +12,7 @@ use Rattle.pyro_server.specs.ServedLaws.{AnswersAllInput, AnswersTheFirst, IsEnd
 use Rattle.pyro_server.specs.Statuses.{status_of}
 use Rattle.pyro_server.specs.declared.ending.Ending.{Ending}
 use Rattle.pyro_server.specs.declared.ending.Ending.TheVariants.{Done, Closed, LastRequest, Refused, NoMemory, LinkFault}
-use Rattle.pyro_server.specs.declared.status.Status.TheVariants as status
+use Rattle.pyro_server.specs.declared.status.ExitStatus.TheVariants as status
 
 one_reason : (one other : BadRequest) → takes.bad one ≡ takes.bad other → one ≡ other
 one_reason one other is = cc

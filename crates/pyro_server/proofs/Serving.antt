@@ -1,13 +1,13 @@
 -- How serving one request follows from taking it and giving its reply.
 use Rattle.std.proofs.Common.{◌≡◌, ◌+◌, ◌∙◌, ℕ, List, [], ◌++◌, refl, sym, ap, subst, inl, inr, ⊎_elim, append-nil}
 use Rattle.http_session.specs.Asked.{Asked}
-use Rattle.http_session.specs.Answers.{AnswerStep}
+use Rattle.http_session.specs.NextRequests.{NextStep}
 use Rattle.link_trait.specs.Link.{Told, Took, Gave, Passed}
 use Rattle.http_session.specs.Reply.{bytes_of_reply}
 use Rattle.http_session.specs.Takes.{IsWhole}
-use Rattle.http_session.specs.Waiting.{Waiting}
+use Rattle.http_session.specs.Progress.{Progress}
 use Rattle.http_session.specs.declared.bad_request.BadRequest.{BadRequest}
-use Rattle.http_session.specs.declared.reader.NextRequest.TheVariants as answer
+use Rattle.http_session.specs.declared.reader.NextRequest.TheVariants as came
 use Rattle.http_session.specs.declared.reply.Reply.{Reply}
 use Rattle.profile_model.specs.declared.push.Push.{Push}
 use Rattle.request_meaning.specs.Facts.{Facts}
@@ -15,14 +15,14 @@ use Rattle.request_meaning.specs.Meanings.{IsWrite, TakesMemory}
 use Rattle.api_replies.specs.Replies.{reply_for_verdict}
 use Rattle.request_meaning.specs.declared.form.PushForm.{PushForm}
 use Rattle.request_meaning.specs.declared.form.PushForm.TheVariants as written
-use Rattle.api_replies.specs.declared.verdict.FirstVerdict.{FirstVerdict}
-use Rattle.api_replies.specs.declared.verdict.FirstVerdict.TheVariants.{Kept, OverLimit, Memory}
+use Rattle.api_replies.specs.declared.verdict.Verdict.{Verdict}
+use Rattle.api_replies.specs.declared.verdict.Verdict.TheVariants.{Kept, OverLimit, Memory}
 use Rattle.pyro_server.specs.Settled.{IsSettledOrNot}
 use Rattle.pyro_server.specs.Given.{last_bytes}
 use Rattle.pyro_server.specs.Served.{IsExchange}
 use Rattle.pyro_server.specs.Steps.{EndsBehind, GivesReply, GivesLast, ServesStep}
 use Rattle.pyro_server.specs.declared.session.Step.{Step}
-use Rattle.pyro_server.specs.declared.session.Step.TheVariants.{Answered, Over}
+use Rattle.pyro_server.specs.declared.session.Step.TheVariants.{Replied, Over}
 use Rattle.pyro_server.specs.declared.ending.Ending.{Ending}
 use Rattle.pyro_server.specs.declared.ending.Ending.TheVariants.{Done, Refused, NoMemory, LinkFault}
 
@@ -50,7 +50,7 @@ write_takes_memory facts asked written.Ingest push write = (_, push.tenant, writ
 write_takes_memory facts asked written.Json push write = (_, push.tenant, write.0)
 
 -- a push was settled, or memory ran out, and its verdict is told
-pub settled_exchange : (facts : Facts) (asked : Asked) (history next : List Push) (reply : Reply) (form : PushForm) (push : Push) (verdict : FirstVerdict)
+pub settled_exchange : (facts : Facts) (asked : Asked) (history next : List Push) (reply : Reply) (form : PushForm) (push : Push) (verdict : Verdict)
     → IsWrite facts asked form push → IsSettledOrNot (facts.limit push.tenant) history push verdict next
     → reply ≡ reply_for_verdict verdict form asked.moment asked.close → IsExchange facts asked history reply next
 settled_exchange facts asked history next reply form push (Kept front) write settled told = inl (inr (form, push, Kept front, write, settled, told))
@@ -58,26 +58,26 @@ settled_exchange facts asked history next reply form push (OverLimit kept adds l
     inl (inr (form, push, OverLimit kept adds limit front, write, settled, told))
 settled_exchange facts asked history next reply form push Memory write settled told = inr ((write_takes_memory facts asked form push write, told), settled)
 
-module _ (facts : Facts) (old new : Waiting) (history next : List Push) where
+module _ (facts : Facts) (old new : Progress) (history next : List Push) where
   -- a request was taken, and its reply given
   pub answered_step : (asked : Asked) (reply : Reply) (result : Step) (before between now : Told)
       → new.given ≡ old.given + 1 → IsExchange facts asked history reply next
-      → AnswerStep (answer.Request asked) old new before between → GivesReply asked.close reply result between now
+      → NextStep (came.Request asked) old new before between → GivesReply asked.close reply result between now
       → ServesStep facts old new history next result before now
-  answered_step asked reply (Answered closes) before between now number exchange (piece, took, whole) (closing, gave) =
+  answered_step asked reply (Replied closes) before between now number exchange (piece, took, whole) (closing, gave) =
       (piece, asked, reply, took_gave piece (bytes_of_reply reply) before between now took gave, whole, exchange, sym closing)
   answered_step asked reply (Over ending) before between now number exchange (piece, took, whole) (failed, (front, rest, cut, gave)) =
       let P : ℕ → Type 0 = λ n. IsWhole n before.moment (old.held ++ piece) asked new.held in
       (piece, front, took_gave piece front before between now took gave, inr (failed, (asked, reply, new.held, subst P number whole, (rest, cut), exchange)))
 
   -- the input ended between requests
-  pub ended_step : (before now : Told) → next ≡ history → AnswerStep answer.End old new before now
+  pub ended_step : (before now : Told) → next ≡ history → NextStep came.End old new before now
       → ServesStep facts old new history next (Over Done) before now
   ended_step before now same (piece, took, (between, none)) =
       (piece, [], took_alone piece before now took, inl (inl ((λ requests on count. ((on, between), none)), refl), same))
 
   -- the link failed before a request was whole
-  pub failed_step : (count : ℕ) (before now : Told) → next ≡ history → AnswerStep (answer.LinkFault count) old new before now
+  pub failed_step : (count : ℕ) (before now : Told) → next ≡ history → NextStep (came.LinkFault count) old new before now
       → ServesStep facts old new history next (Over LinkFault) before now
   failed_step count before now same (piece, took, part) =
       (piece, [], took_alone piece before now took, inl (inl ((λ requests on many. (on, part)), refl), same))
@@ -99,14 +99,14 @@ module _ (facts : Facts) (old new : Waiting) (history next : List Push) where
 
   -- the bytes are no request, and the last reply was given
   pub refused_step : (bad : BadRequest) (ending : Ending) (before between now : Told) → next ≡ history
-      → AnswerStep (answer.Bad bad) old new before between → GivesLast (Refused bad) ending between now
+      → NextStep (came.Bad bad) old new before between → GivesLast (Refused bad) ending between now
       → ServesStep facts old new history next (Over ending) before now
   refused_step bad ending before between now same (piece, took, (is_bad, cut_off)) gives =
       last_step (Refused bad) ending piece before between now same took (λ requests on count. ((on, is_bad), cut_off)) gives
 
   -- memory ran out while a request was read, and the last reply was given
   pub starved_step : (ending : Ending) (before between now : Told) → next ≡ history
-      → AnswerStep answer.Memory old new before between → GivesLast NoMemory ending between now
+      → NextStep came.Memory old new before between → GivesLast NoMemory ending between now
       → ServesStep facts old new history next (Over ending) before now
   starved_step ending before between now same (piece, took, said) gives =
       last_step NoMemory ending piece before between now same took

@@ -11,8 +11,8 @@ use Rattle.request_meaning.specs.Forms.{tenant_of}
 use Rattle.request_meaning.specs.Facts.{Facts}
 use Rattle.api_replies.specs.Replies.{IsExcused, reply_for_verdict}
 use Rattle.request_meaning.specs.declared.form.PushForm.{PushForm}
-use Rattle.api_replies.specs.declared.verdict.FirstVerdict.{FirstVerdict}
-use Rattle.api_replies.specs.declared.verdict.FirstVerdict.TheVariants.{Kept, OverLimit, Memory}
+use Rattle.api_replies.specs.declared.verdict.Verdict.{Verdict}
+use Rattle.api_replies.specs.declared.verdict.Verdict.TheVariants.{Kept, OverLimit, Memory}
 use Rattle.api_replies.proofs.FailureLemmas.{never_both}
 use Rattle.http_session.specs.declared.reply.Reply.{Reply}
 use Rattle.http_session.specs.declared.reply.Status.TheVariants.{InternalServerError}
@@ -180,7 +180,7 @@ is_one_or_the_other facts answers history base at =
     (one_or_the_other facts history) answers at.replies
 
 -- a push that is settled is told that it was kept, or that its tenant's limit would be passed
-settled_no_failure : (limit : ℕ) (history next : List Push) (push : Push) (verdict : FirstVerdict) (form : PushForm) (now : ℕ) (close : Bool)
+settled_no_failure : (limit : ℕ) (history next : List Push) (push : Push) (verdict : Verdict) (form : PushForm) (now : ℕ) (close : Bool)
     → IsSettled limit history push verdict next → (reply_for_verdict verdict form now close).status ≢ InternalServerError
 settled_no_failure limit history next push (Kept front) form now close settled = λ is. cc
 settled_no_failure limit history next push (OverLimit kept adds told front) form now close settled = λ is. cc

@@ -8,14 +8,14 @@ use Rattle.http_session.specs.Limits.{most_requests}
 use Rattle.link_trait.specs.Link.{Told, Passed}
 use Rattle.http_session.specs.Reply.{bytes_of_reply}
 use Rattle.http_session.specs.Takes.{IsWhole, AreRequests, is_closed}
-use Rattle.http_session.specs.Waiting.{Waiting}
+use Rattle.http_session.specs.Progress.{Progress}
 use Rattle.http_session.proofs.RequestsLemmas.{closed_last, requests_stay, requests_then}
 use Rattle.profile_model.specs.declared.push.Push.{Push}
 use Rattle.request_meaning.specs.Facts.{Facts}
 use Rattle.pyro_server.specs.Given.{Answer, EndsSo, Gives, IsEnded, IsOpen, requests_of, replies_of, last_bytes}
 use Rattle.pyro_server.specs.Served.{Exchange, InTurn, IsExchange, IsServedInTurn, answers_of}
 use Rattle.pyro_server.specs.Steps.{GivesNoMore, ServesStep, SoFar}
-use Rattle.pyro_server.specs.declared.session.Step.TheVariants.{Answered, Over}
+use Rattle.pyro_server.specs.declared.session.Step.TheVariants.{Replied, Over}
 use Rattle.pyro_server.specs.declared.ending.Ending.{Ending}
 
 -- ---- what passed
@@ -51,16 +51,16 @@ in_turn_then facts history (first ∷ more) middle one (exchanged, turn) exchang
 -- ---- the session
 
 -- before the first request nothing was taken
-pub at_first : (facts : Facts) (reader : Waiting) (history : List Push) → reader.held ≡ [] → reader.given ≡ 0 → history ≡ []
+pub at_first : (facts : Facts) (reader : Progress) (history : List Push) → reader.held ≡ [] → reader.given ≡ 0 → history ≡ []
     → (a : Told) → SoFar facts reader history a a
 at_first facts reader history held given none a = (
   [],
-  record { took = []; gave = []; passed = passed_nothing a; answered = record { requests = held; replies = refl }; goes_on = refl },
+  record { took = []; gave = []; passed = passed_nothing a; answered = record { requests = held; replies = refl }; unclosed = refl },
   sym given,
   none,
 )
 
-module _ (facts : Facts) (old new : Waiting) (history next : List Push) (before between now : Told) where
+module _ (facts : Facts) (old new : Progress) (history next : List Push) (before between now : Told) where
   -- as many requests were answered as the reader gave
   many : (exchanges : List Exchange) → length exchanges ≡ old.given → length (requests_of (answers_of exchanges)) ≡ old.given
   many exchanges count = length-map (answers_of exchanges) (λ (a : Answer). a.asked) ∙ length-map exchanges (λ (e : Exchange). e.answer) ∙ count
@@ -78,7 +78,7 @@ module _ (facts : Facts) (old new : Waiting) (history next : List Push) (before 
       let R : List Asked → Type 0 = λ asked. AreRequests 1 before.moment (open_.took ++ piece) asked rest in
       subst R (sym (map_then (λ (a : Answer). a.asked) (answers_of exchanges) one))
       (requests_then 1 before.moment (open_.took ++ piece) requests (old.held ++ piece) one.asked rest
-      (requests_stay 1 before.moment open_.took requests old.held piece open_.answered.requests) open_.goes_on
+      (requests_stay 1 before.moment open_.took requests old.held piece open_.answered.requests) open_.unclosed
       (subst M open_.passed.moment (subst N number whole)))
 
   -- the last of them asks for closing where the one more does
@@ -91,7 +91,7 @@ module _ (facts : Facts) (old new : Waiting) (history next : List Push) (before 
   gave_with answers one gave is = ap (λ (front : List ℕ). front ++ bytes_of_reply one.reply) is ∙ sym (replies_then answers one)
 
   -- one request more was answered
-  pub one_more : new.given ≡ old.given + 1 → SoFar facts old history before between → ServesStep facts old new history next (Answered false) between now
+  pub one_more : new.given ≡ old.given + 1 → SoFar facts old history before between → ServesStep facts old new history next (Replied false) between now
       → SoFar facts new next before now
   one_more number (exchanges, open_, count, turn) (piece, asked, reply, passed, whole, exchange, unclosed) =
       let answer : Answer = record { asked = asked; reply = reply } in
@@ -108,7 +108,7 @@ module _ (facts : Facts) (old new : Waiting) (history next : List Push) (before 
           requests = requests_with (exchanges, open_, count, turn) piece new.held answer (subst N number whole);
           replies = gave_with (answers_of exchanges) answer open_.gave open_.answered.replies;
         };
-        goes_on = closed_with (answers_of exchanges) answer false unclosed;
+        unclosed = closed_with (answers_of exchanges) answer false unclosed;
       } in (
         exchanges ++ one ∷ [],
         subst O (sym are) opened,
@@ -120,7 +120,7 @@ module _ (facts : Facts) (old new : Waiting) (history next : List Push) (before 
   pub closed : (close : Bool) (ending : Ending) → new.given ≡ old.given + 1
       → ((requests : List Asked) (rest : List ℕ) → is_closed requests ≡ true → length requests ≡ old.given + 1 → EndsSo requests rest now.to_come ending)
       → ((moment : ℕ) → last_bytes ending moment ≡ [])
-      → SoFar facts old history before between → ServesStep facts old new history next (Answered close) between now
+      → SoFar facts old history before between → ServesStep facts old new history next (Replied close) between now
       → ((asked : Asked) (moment : ℕ) (bytes rest : List ℕ) → IsWhole (old.given + 1) moment bytes asked rest → asked.close ≡ close → asked.close ≡ true)
       → IsServedInTurn facts next ending before now
   closed close ending number ends silent (exchanges, open_, count, turn) (piece, asked, reply, passed, whole, exchange, same) closes =
@@ -154,7 +154,7 @@ module _ (facts : Facts) (old new : Waiting) (history next : List Push) (before 
   over_plainly ending (exchanges, open_, count, turn) piece gave passed (inl (ends, given)) = inl record {
     rest = old.held ++ piece;
     requests = requests_stay 1 before.moment open_.took (requests_of (answers_of exchanges)) old.held piece open_.answered.requests;
-    ends = ends (requests_of (answers_of exchanges)) open_.goes_on (many exchanges count);
+    ends = ends (requests_of (answers_of exchanges)) open_.unclosed (many exchanges count);
     given = ap (λ (front : List ℕ). front ++ gave) open_.answered.replies
         ∙ ap (λ (last : List ℕ). replies_of (answers_of exchanges) ++ last) (given ∙ ap (λ (m : ℕ). last_bytes ending m) open_.passed.moment);
   }
@@ -164,7 +164,7 @@ module _ (facts : Facts) (old new : Waiting) (history next : List Push) (before 
       rest = old.held ++ piece;
       requests = requests_stay 1 before.moment open_.took (requests_of (answers_of exchanges)) old.held piece open_.answered.requests;
       due = due;
-      ends = ends (requests_of (answers_of exchanges)) open_.goes_on (many exchanges count);
+      ends = ends (requests_of (answers_of exchanges)) open_.unclosed (many exchanges count);
       front = gave;
       is_front = (rest, ap (λ (m : ℕ). last_bytes due m) (sym open_.passed.moment) ∙ cut);
       given = ap (λ (front : List ℕ). front ++ gave) open_.answered.replies;

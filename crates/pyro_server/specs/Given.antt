@@ -7,7 +7,7 @@ use Rattle.http_session.specs.Limits.{most_requests}
 use Rattle.http_session.specs.Reply.{bytes_of_reply}
 use Rattle.http_session.specs.Takes as takes
 use Rattle.http_session.specs.Takes.{AreRequests, EndsAs, IsPartial, is_closed}
-use Rattle.http_session.specs.Answers.{IsStarvedAt}
+use Rattle.http_session.specs.NextRequests.{IsStarvedAt}
 use Rattle.http_session.specs.declared.bad_request.BadRequest.TheVariants.{CutOff}
 use Rattle.http_session.specs.declared.reply.Reply.{Reply}
 use Rattle.api_replies.specs.Refusals.{last_reply, reply_for_memory}
@@ -35,13 +35,13 @@ pub record AreAnswered (moment : ℕ) (bytes : List ℕ) (answers : List Answer)
   pub replies : gave ≡ replies_of answers
 
 -- A connection that is still open, from one state to another: what it took are the requests that were answered, and
--- then the bytes that are held; what it gave are just the replies; and it goes on.
+-- then the bytes that are held; what it gave are just the replies; and none of the requests closes it.
 pub record IsOpen (answers : List Answer) (held : List ℕ) (before now : Told) : Type 0 where
   pub took : List ℕ
   pub gave : List ℕ
   pub passed : Passed took gave before now
   pub answered : AreAnswered before.moment took answers held gave
-  pub goes_on : is_closed (requests_of answers) ≡ false
+  pub unclosed : is_closed (requests_of answers) ≡ false
 
 -- ---- endings
 

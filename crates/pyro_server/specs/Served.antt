@@ -8,7 +8,7 @@ use Rattle.request_meaning.specs.Facts.{Facts}
 use Rattle.request_meaning.specs.Meanings.{IsWrite}
 use Rattle.api_replies.specs.Replies.{IsReply, IsExcused, reply_for_verdict}
 use Rattle.request_meaning.specs.declared.form.PushForm.{PushForm}
-use Rattle.api_replies.specs.declared.verdict.FirstVerdict.{FirstVerdict}
+use Rattle.api_replies.specs.declared.verdict.Verdict.{Verdict}
 use Rattle.pyro_server.specs.Given.{Answer, IsEnded}
 use Rattle.pyro_server.specs.Settled.{IsSettled}
 use Rattle.pyro_server.specs.declared.ending.Ending.{Ending}
@@ -18,7 +18,7 @@ use Rattle.pyro_server.specs.declared.ending.Ending.{Ending}
 abbrev pub IsDefined : Facts → Asked → List Push → Reply → List Push → Type 0
 IsDefined facts asked history reply next =
     (IsReply facts asked history reply × (next ≡ history))
-    ⊎ ((form : PushForm) × (push : Push) × (verdict : FirstVerdict) × IsWrite facts asked form push
+    ⊎ ((form : PushForm) × (push : Push) × (verdict : Verdict) × IsWrite facts asked form push
     × IsSettled (facts.limit push.tenant) history push verdict next
     × (reply ≡ reply_for_verdict verdict form asked.moment asked.close))
 

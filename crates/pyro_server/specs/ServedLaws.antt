@@ -13,7 +13,7 @@ use Rattle.request_meaning.specs.Forms.{tenant_of}
 use Rattle.request_meaning.specs.Meanings.{IsWrite}
 use Rattle.api_replies.specs.Replies.{IsReply, IsExcused}
 use Rattle.request_meaning.specs.declared.form.PushForm.{PushForm}
-use Rattle.api_replies.specs.declared.verdict.FirstVerdict.TheVariants.{Kept}
+use Rattle.api_replies.specs.declared.verdict.Verdict.TheVariants.{Kept}
 use Rattle.pyro_server.specs.Given.{Answer, IsEnded, requests_of}
 use Rattle.pyro_server.specs.Settled.{IsSettled}
 use Rattle.pyro_server.specs.Served.{Exchange, InTurn, InTurnAmongOthers, IsDefined, answers_of}
@@ -21,7 +21,7 @@ use Rattle.pyro_server.specs.ServedAt.{IsAcknowledged, IsAnsweredAt, IsAnsweredO
 use Rattle.pyro_server.specs.Statuses.{status_of}
 use Rattle.pyro_server.specs.declared.ending.Ending.{Ending}
 use Rattle.pyro_server.specs.declared.ending.Ending.TheVariants.{Done, Closed, LastRequest, Refused}
-use Rattle.pyro_server.specs.declared.status.Status.TheVariants as status
+use Rattle.pyro_server.specs.declared.status.ExitStatus.TheVariants as status
 
 -- ---- the input
 

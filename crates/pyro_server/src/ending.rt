@@ -2,7 +2,7 @@
 ghost use Rattle.std.specs.Prelude.{◌≡◌};
 ghost use Rattle.pyro_server.specs.Statuses.{status_of};
 
-use crate::status::Status;
+use crate::status::ExitStatus;
 use http_session::BadRequest;
 
 /// How one connection ended.
@@ -24,15 +24,15 @@ pub enum Ending {
 
 impl Ending {
     /// The status of a run whose one connection ended so.
-    pub fn status(self) -> Status
+    pub fn status(self) -> ExitStatus
         ensures { result ≡ status_of self }
     {
         match self {
-            Ending::Done | Ending::Closed => Status::Done,
-            Ending::LastRequest => Status::LastRequest,
-            Ending::Refused(_) => Status::BadRequest,
-            Ending::NoMemory => Status::NoMemory,
-            Ending::LinkFault => Status::StreamFault,
+            Ending::Done | Ending::Closed => ExitStatus::Done,
+            Ending::LastRequest => ExitStatus::LastRequest,
+            Ending::Refused(_) => ExitStatus::BadRequest,
+            Ending::NoMemory => ExitStatus::NoMemory,
+            Ending::LinkFault => ExitStatus::StreamFault,
         }
     }
 }

@@ -19,7 +19,7 @@ pub use laws::{
 use link_trait::StdioLink;
 pub use outcome::{Outcome, run};
 pub use session::{Ended, run_session};
-pub use status::Status;
+pub use status::ExitStatus;
 use std::alloc::Global;
 use std::process::ExitCode;
 use std::{env, io, mem};
@@ -28,9 +28,9 @@ fn main(rt: HostRuntime) -> ExitCode {
     let words = match words_of(&rt) {
         Ok(words) => words,
         Err(error) if error.kind() == io::ErrorKind::OutOfMemory => {
-            return ExitCode::from(Status::NoMemory.code());
+            return ExitCode::from(ExitStatus::NoMemory.code());
         }
-        Err(_) => return ExitCode::from(Status::NoCommand.code()),
+        Err(_) => return ExitCode::from(ExitStatus::NoCommand.code()),
     };
     let alloc = rt.alloc();
     let stdio = StdioLink::new(rt);

@@ -8,7 +8,7 @@ ghost use Rattle.pyro_server.specs.declared.ending.Ending.{Ending};
 ghost use Rattle.pyro_server.specs.Words.{IsSession};
 
 use crate::session::run_session;
-use crate::status::Status;
+use crate::status::ExitStatus;
 use crate::words::{Command, command_of};
 use link_trait::Link;
 use profile_model::Push;
@@ -19,7 +19,7 @@ use std::alloc::Global;
 /// How a run ended, with all that was handed in.
 #[derive(Drop)]
 pub struct Outcome<D, L, F, E> {
-    pub status: Status,
+    pub status: ExitStatus,
     pub disk: D,
     pub stdio: L,
     pub doors: F,
@@ -50,21 +50,21 @@ pub fn run<D, L: Link, F, E, G>(
         ⊎ ((ending : Ending) × (result.status ≡ status_of ending)
         × Goes (IsServedInTurn usual_facts result.history.items ending) (L.told stdio) (L.told result.stdio)) }
     // The stream's count of faults rises where the status says so, and only there.
-    ensures cause { result.status ≡ Status.StreamFault → Rose (L.faults stdio) (L.faults result.stdio) }
-    ensures quiet { result.status ≢ Status.StreamFault → L.faults result.stdio ≡ L.faults stdio }
-    ensures open { result.status ≢ Status.StreamFault → L.is_open result.stdio ≡ true }
+    ensures cause { result.status ≡ ExitStatus.StreamFault → Rose (L.faults stdio) (L.faults result.stdio) }
+    ensures quiet { result.status ≢ ExitStatus.StreamFault → L.faults result.stdio ≡ L.faults stdio }
+    ensures open { result.status ≢ ExitStatus.StreamFault → L.is_open result.stdio ≡ true }
 
     // Other words are no command, and do nothing.
-    ensures no_command { (result.status ≡ Status.NoCommand) ↔ (¬ (IsSession (map string_bytes words.now))) }
+    ensures no_command { (result.status ≡ ExitStatus.NoCommand) ↔ (¬ (IsSession (map string_bytes words.now))) }
     ensures untouched { ¬ (IsSession (map string_bytes words.now)) → (result.stdio ≡ stdio) × (result.history.items ≡ []) }
 
     ensures given_back { (result.disk ≡ disk) × (result.doors ≡ doors) × (result.finish ≡ finish) }
 {
     let Some(Command::Session) = command_of(words) else {
-        return unserved(alloc, Status::NoCommand, disk, stdio, doors, finish);
+        return unserved(alloc, ExitStatus::NoCommand, disk, stdio, doors, finish);
     };
     let Ok(routes) = Routes::new(alloc) else {
-        return unserved(alloc, Status::NoMemory, disk, stdio, doors, finish);
+        return unserved(alloc, ExitStatus::NoMemory, disk, stdio, doors, finish);
     };
     let config = Config {
         single_tenant: false,
@@ -84,7 +84,7 @@ pub fn run<D, L: Link, F, E, G>(
 // All that was handed in, as it was.
 fn unserved<D, L, F, E>(
     alloc: Global,
-    status: Status,
+    status: ExitStatus,
     disk: D,
     stdio: L,
     doors: F,

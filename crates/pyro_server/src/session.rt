@@ -9,7 +9,7 @@ ghost use Rattle.request_meaning.specs.Facts.{facts_of};
 ghost use Rattle.pyro_server.specs.Served.{IsExchange, IsServedInTurn};
 ghost use Rattle.pyro_server.specs.ServedAt.{IsServedAt};
 ghost use Rattle.pyro_server.specs.ServedLaws.{AnswersAreIsolated};
-ghost use Rattle.pyro_server.specs.Steps.{GivesBytes, GivesLast, GivesReply, IsAnswered, ServesStep};
+ghost use Rattle.pyro_server.specs.Steps.{GivesBytes, GivesLast, GivesReply, IsReplied, ServesStep};
 
 use crate::ending::Ending;
 use crate::settle::settle;
@@ -33,8 +33,8 @@ pub struct Ended<D, L> {
 // What became of one request.
 #[derive(Clone, Copy)]
 enum Step {
-    /// It was answered, and the connection closes after it or not.
-    Answered { close: bool },
+    /// It was replied to, and the connection closes after it or not.
+    Replied { close: bool },
     Over(Ending),
 }
 
@@ -76,13 +76,13 @@ fn serve<L: Link>(alloc: Global, stdio: &mut L, history: &mut Vec<Push>, config:
     let mut reader = Reader::new(alloc);
     for number in 1..MAX_REQUESTS {
         match serve_next(alloc, &mut reader, stdio, history, config) {
-            Step::Answered { close: false } => {}
-            Step::Answered { close: true } => return Ending::Closed,
+            Step::Replied { close: false } => {}
+            Step::Replied { close: true } => return Ending::Closed,
             Step::Over(ending) => return ending,
         }
     }
     match serve_next(alloc, &mut reader, stdio, history, config) {
-        Step::Answered { .. } => Ending::LastRequest,
+        Step::Replied { .. } => Ending::LastRequest,
         Step::Over(ending) => ending,
     }
 }
@@ -96,12 +96,12 @@ fn serve_next<L: Link>(
     config: &Config,
 ) -> Step
     requires bounded { HasBoundedTotals history.old.items }
-    requires going { reader.old.ended ≡ false }
+    requires reading { reader.old.ended ≡ false }
     requires number { reader.old.given < most_requests }
     requires open { L.is_open stdio.old ≡ true }
     ensures bounded { HasBoundedTotals history.new.items }
     ensures served { Goes (ServesStep (facts_of config.now) reader.old reader.new history.old.items history.new.items result) (L.told stdio.old) (L.told stdio.new) }
-    ensures goes_on { IsAnswered result → (reader.new.ended ≡ false) × (reader.new.given ≡ min (reader.old.given + 1) most_requests) }
+    ensures continues { IsReplied result → (reader.new.ended ≡ false) × (reader.new.given ≡ min (reader.old.given + 1) most_requests) }
     ensures open { result ≢ Step.Over Ending.LinkFault → L.is_open stdio.new ≡ true }
     ensures cause { result ≡ Step.Over Ending.LinkFault → Rose (L.faults stdio.old) (L.faults stdio.new) }
     ensures quiet { result ≢ Step.Over Ending.LinkFault → L.faults stdio.new ≡ L.faults stdio.old }
@@ -134,7 +134,7 @@ fn serve_request<L: Link>(
 {
     let reply = reply_to(alloc, request, history, config);
     match write_reply(stdio, &reply) {
-        Ok(()) => Step::Answered {
+        Ok(()) => Step::Replied {
             close: request.close(),
         },
         Err(_) => Step::Over(Ending::LinkFault),

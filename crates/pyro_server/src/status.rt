@@ -1,10 +1,10 @@
-// How a run ended.
+// The exit statuses of the program.
 ghost use Rattle.std.specs.Prelude.{◌≡◌};
 ghost use Rattle.pyro_server.specs.Statuses.{code_of};
 
 /// How a run ended.
 #[derive(Clone, Copy, Debug, PartialEq, Eq)]
-pub enum Status {
+pub enum ExitStatus {
     /// The input ended between two requests, or the last request asked for closing and was answered.
     Done,
     /// The words are no command.
@@ -19,18 +19,18 @@ pub enum Status {
     BadRequest,
 }
 
-impl Status {
+impl ExitStatus {
     /// The exit status of the program.
     pub fn code(self) -> u8
         ensures { result ≡ code_of self }
     {
         match self {
-            Status::Done => 0,
-            Status::NoCommand => 2,
-            Status::NoMemory => 3,
-            Status::StreamFault => 6,
-            Status::LastRequest => 9,
-            Status::BadRequest => 11,
+            ExitStatus::Done => 0,
+            ExitStatus::NoCommand => 2,
+            ExitStatus::NoMemory => 3,
+            ExitStatus::StreamFault => 6,
+            ExitStatus::LastRequest => 9,
+            ExitStatus::BadRequest => 11,
         }
     }
 }

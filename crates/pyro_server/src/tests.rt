@@ -4,7 +4,7 @@ mod queries;
 mod refusals;
 mod talk;
 
-use crate::{Outcome, Status, run};
+use crate::{ExitStatus, Outcome, run};
 use link_trait::{Link, MemoryLink};
 use std::alloc::{AllocError, Global};
 use std::process::Abort;
@@ -57,7 +57,7 @@ fn text(alloc: Global, pieces: &[&str]) -> Result<String, AllocError> {
 }
 
 // The run gave just these bytes and ended so.
-fn expect(rt: &impl Abort, ran: &Ran, given: &str, status: Status, at: usize) {
+fn expect(rt: &impl Abort, ran: &Ran, given: &str, status: ExitStatus, at: usize) {
     assert_eq!(rt; ran.stdio.given(), given.as_bytes(), "at {at}");
     assert_eq!(rt; ran.status, status, "at {at}");
 }
@@ -68,7 +68,7 @@ fn a_push_is_rendered_as_folded_text(rt: HostRuntime) -> Result<(), Fail> {
     let input = text(alloc, &[INGEST, RENDER])?;
     let given = text(alloc, &[INGESTED, RENDERED])?;
     let ran = session(alloc, input.as_str().as_bytes())?;
-    expect(&rt, &ran, given.as_str(), Status::Done, 0);
+    expect(&rt, &ran, given.as_str(), ExitStatus::Done, 0);
     assert_eq!(rt; ran.history.len(), 1);
     Ok(())
 }
@@ -87,7 +87,7 @@ fn input_cut_at_each_byte_gets_the_same_replies(rt: HostRuntime) -> Result<(), F
             cuts,
             Vec::new(alloc),
         )?;
-        expect(&rt, &ran, given.as_str(), Status::Done, cut);
+        expect(&rt, &ran, given.as_str(), ExitStatus::Done, cut);
     }
     Ok(())
 }
@@ -106,7 +106,7 @@ fn words_that_are_no_command_read_nothing(rt: HostRuntime) -> Result<(), Fail> {
             Vec::new(alloc),
             vec![in alloc; 0]?,
         )?;
-        expect(&rt, &ran, "", Status::NoCommand, at);
+        expect(&rt, &ran, "", ExitStatus::NoCommand, at);
         assert_eq!(rt; ran.stdio.faults(), 0);
     }
     Ok(())
@@ -117,7 +117,7 @@ fn an_empty_session_gives_nothing(rt: HostRuntime) -> Result<(), Fail> {
     let alloc = rt.alloc();
     for (at, input) in ["", "\r\n", "\r\n\r\n"].iter().enumerate() {
         let ran = session(alloc, input.as_bytes())?;
-        expect(&rt, &ran, "", Status::Done, at);
+        expect(&rt, &ran, "", ExitStatus::Done, at);
     }
     Ok(())
 }
@@ -179,7 +179,7 @@ fn heads_that_are_not_served_close_the_connection(rt: HostRuntime) -> Result<(),
     .enumerate()
     {
         let ran = session(alloc, input.as_bytes())?;
-        expect(&rt, &ran, given, Status::BadRequest, at);
+        expect(&rt, &ran, given, ExitStatus::BadRequest, at);
         assert_eq!(rt; ran.history.len(), 0);
     }
     Ok(())
@@ -199,7 +199,7 @@ fn a_link_that_fails_ends_the_session(rt: HostRuntime) -> Result<(), Fail> {
             Vec::new(alloc),
             fails,
         )?;
-        assert_eq!(rt; ran.status, Status::StreamFault, "at {failing}");
+        assert_eq!(rt; ran.status, ExitStatus::StreamFault, "at {failing}");
         assert!(rt;
             given.as_str().as_bytes().starts_with(ran.stdio.given()),
             "at {failing}"
@@ -229,9 +229,9 @@ fn a_head_may_have_64_headers(rt: HostRuntime) -> Result<(), Fail> {
     head.extend_from_slice(b"\r\n")?;
     more.extend_from_slice(b"a: b\r\n\r\n")?;
     let served = session(alloc, &head)?;
-    expect(&rt, &served, nothing, Status::Done, 64);
+    expect(&rt, &served, nothing, ExitStatus::Done, 64);
     let refused = session(alloc, &more)?;
-    expect(&rt, &refused, closed, Status::BadRequest, 65);
+    expect(&rt, &refused, closed, ExitStatus::BadRequest, 65);
     Ok(())
 }
 
@@ -244,6 +244,6 @@ fn a_request_may_ask_for_closing(rt: HostRuntime) -> Result<(), Fail> {
     )?;
     let closed =
         "HTTP/1.1 404 Not Found\r\nContent-Type: application/json\r\nContent-Length: 17\r\nX-Pyro-Now: 1700000000000\r\nConnection: close\r\n\r\n{\"fault\":\"route\"}";
-    expect(&rt, &ran, closed, Status::Done, 0);
+    expect(&rt, &ran, closed, ExitStatus::Done, 0);
     Ok(())
 }

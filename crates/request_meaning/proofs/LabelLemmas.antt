@@ -14,7 +14,8 @@ use Rattle.selector.specs.declared.fault.SelectorFault.{SelectorFault}
 use Rattle.serde_json.specs.Data.{Data}
 use Rattle.json_bodies.specs.Fields.{texts_in, number_in, end_of}
 use Rattle.json_bodies.specs.Objects.{IsReadObject, or_braces}
-use Rattle.request_meaning.specs.LabelAsks.{AreSelectors, HasWindow, IsAskOf, IsAskOfRefused, IsAskRefused, IsFirstRefused, IsLabelAsk, IsLabelFault, IsSelectorsFault, IsSelectorsRefused, SaysLabelAsk, SaysQuery, kinds_of, method_of, most_selectors}
+use Rattle.request_meaning.specs.LabelAsks.{AreSelectors, HasWindow, IsFirstRefused, IsLabelAsk, IsLabelFault, IsSelectorsFault, SaysQuery, kinds_of, method_of, most_selectors}
+use Rattle.request_meaning.specs.ReadParts.{IsAskOf, IsAskOfRefused, IsAskRefused, SaysLabelAsk}
 use Rattle.request_meaning.specs.declared.ask.LabelAsk.{LabelAsk}
 use Rattle.request_meaning.specs.declared.ask.LabelQuery.{LabelQuery}
 use Rattle.request_meaning.specs.declared.ask.LabelQuery.TheVariants as ask

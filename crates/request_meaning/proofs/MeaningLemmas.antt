@@ -13,7 +13,8 @@ use Rattle.routes.specs.declared.route.Found.TheVariants as found
 use Rattle.request_meaning.specs.Facts.{Facts}
 use Rattle.request_meaning.specs.Forms.{built_route, is_built, route_at, route_of}
 use Rattle.request_meaning.specs.LabelAsks.{IsLabelAsk, IsLabelFault}
-use Rattle.request_meaning.specs.Meanings.{IsReadFault, IsUnserved, Means, Reaches, Says, SaysLabels}
+use Rattle.request_meaning.specs.Meanings.{IsReadFault, IsUnserved, Means, Reaches}
+use Rattle.request_meaning.specs.ReadParts.{Says, SaysLabels}
 use Rattle.request_meaning.specs.declared.ask.Ask.TheVariants as ask
 use Rattle.request_meaning.specs.declared.form.PushForm.TheVariants as written
 use Rattle.request_meaning.specs.declared.meaning.Meaning.{Meaning}

@@ -62,4 +62,4 @@ is_encoded asked = is_coded asked.encoding || begins_as_gzip asked.body
 
 -- a front is asked for, which isn't read yet
 abbrev pub asks_for_front : Asked → Bool
-asks_for_front asked = is_some asked.asked
+asks_for_front asked = is_some asked.front

@@ -5,8 +5,6 @@ use Rattle.serde_json.specs.Data.{Data}
 use Rattle.json_bodies.specs.Fields.{text_in, texts_in, number_in, end_of}
 use Rattle.json_bodies.specs.Objects.{IsReadObject, or_braces}
 use Rattle.json_bodies.specs.Queries.{label_names_kinds, label_values_kinds, series_kinds}
-use Rattle.json_bodies.specs.declared.fields.FieldFault.{FieldFault}
-use Rattle.json_bodies.specs.declared.fields.FieldFault.TheVariants.{WrongKind as wrong_kind}
 use Rattle.json_bodies.specs.declared.object.JsonFault.TheVariants.{NotObject as no_object}
 use Rattle.selector.specs.Matching.{Matching}
 use Rattle.selector.specs.Read.{IsReadSelector}
@@ -100,42 +98,3 @@ IsLabelFault method body Window =
     (value : Data) × (texts : List (List ℕ)) × (selectors : List (List Matching)) × (from : ℕ) × (until : ℕ)
     × HasFields method body value texts × (length texts ≤ most_selectors) × AreSelectors texts selectors × HasWindow value from until × (until < from)
 IsLabelFault method body refusal = ⊥
-
--- ---- what reading the parts answers
-
--- the query that an object says
-abbrev pub SaysLabelAsk : LabelMethod → Data → List ℕ → LabelAsk → Type 0
-SaysLabelAsk method value tenant asked =
-    (texts : List (List ℕ)) × (asked.part.tenant ≡ tenant) × (method_of asked.query ≡ method) × SaysQuery method value asked.query
-    × (texts_in (codes "matchers") value ≡ Some texts) × (length texts ≤ most_selectors) × AreSelectors texts asked.selectors.items
-    × HasWindow value asked.part.from_ms asked.part.until_ms × (asked.part.from_ms ≤ asked.part.until_ms)
-
--- why these texts are no selectors
-abbrev pub IsSelectorsRefused : List (List ℕ) → Refusal → Type 0
-IsSelectorsRefused texts (Selector fault) = IsSelectorsFault texts fault
-IsSelectorsRefused texts refusal = ⊥
-
--- the query of these parts
-abbrev pub IsAskOf : List ℕ → LabelQuery → List (List ℕ) → ℕ → ℕ → LabelAsk → Type 0
-IsAskOf tenant query texts from until asked =
-    (asked.part.tenant ≡ tenant) × (asked.query ≡ query) × (asked.part.from_ms ≡ from) × (asked.part.until_ms ≡ until)
-    × (length texts ≤ most_selectors) × AreSelectors texts asked.selectors.items × (from ≤ until)
-
-abbrev pub IsAskOfRefused : List (List ℕ) → ℕ → ℕ → Refusal → Type 0
-IsAskOfRefused texts from until Window = (selectors : List (List Matching)) × (length texts ≤ most_selectors) × AreSelectors texts selectors × (until < from)
-IsAskOfRefused texts from until refusal = IsSelectorsRefused texts refusal
-
--- why an object says no query
-abbrev pub IsAskRefused : LabelMethod → Data → Refusal → Type 0
-IsAskRefused method value (WrongKind at) = position not (kinds_of method value) ≡ Some at
-IsAskRefused method value (Selector fault) =
-    (texts : List (List ℕ)) × (position not (kinds_of method value) ≡ None) × (texts_in (codes "matchers") value ≡ Some texts) × IsSelectorsFault texts fault
-IsAskRefused method value Window =
-    (texts : List (List ℕ)) × (selectors : List (List Matching)) × (from : ℕ) × (until : ℕ)
-    × (position not (kinds_of method value) ≡ None) × (texts_in (codes "matchers") value ≡ Some texts)
-    × (length texts ≤ most_selectors) × AreSelectors texts selectors × HasWindow value from until × (until < from)
-IsAskRefused method value refusal = ⊥
-
--- the refusal of a fault of fields
-abbrev pub refusal_of : FieldFault → Refusal
-refusal_of (wrong_kind at) = WrongKind at

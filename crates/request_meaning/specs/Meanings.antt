@@ -22,7 +22,6 @@ use Rattle.request_meaning.specs.declared.form.PushForm.{PushForm}
 use Rattle.request_meaning.specs.declared.form.PushForm.TheVariants as written
 use Rattle.request_meaning.specs.declared.meaning.Meaning.{Meaning}
 use Rattle.request_meaning.specs.declared.meaning.Meaning.TheVariants.{Write, Query}
-use Rattle.request_meaning.specs.declared.method.LabelMethod.{LabelMethod}
 use Rattle.request_meaning.specs.declared.method.LabelMethod.TheVariants.{Names, Values, Series}
 use Rattle.request_meaning.specs.declared.refusal.Refusal.{Refusal}
 use Rattle.request_meaning.specs.declared.refusal.Refusal.TheVariants as refused
@@ -104,23 +103,6 @@ IsRefused facts asked refusal =
 abbrev pub Means : Facts → Asked → Meaning → Type 0
 Means facts asked (Write form push) = IsWrite facts asked form push
 Means facts asked (Query what) = IsAsk facts asked what
-
--- what a query for labels asks
-abbrev pub SaysLabels : Asked → LabelMethod → List ℕ → Meaning → Type 0
-SaysLabels asked method tenant (Query (ask.Labels what)) =
-    (what.part.tenant ≡ tenant) × (method_of what.query ≡ method) × IsLabelAsk method asked.body what
-SaysLabels asked method tenant meaning = ⊥
-
--- what the parameters and the body say for the request's route
-abbrev pub Says : Asked → Route → List ℕ → Meaning → Type 0
-Says asked route.Ingest tenant (Write written.Ingest push) =
-    (push.tenant ≡ tenant) × SaysProfiles (parameters_of asked.query) asked.body asked.moment push.profiles
-Says asked route.Push tenant (Write written.Json push) = (push.tenant ≡ tenant) × SaysPushed asked.body asked.moment push.profiles
-Says asked route.Render tenant (Query (ask.Render what)) = (what.part.tenant ≡ tenant) × IsRenderAsk (parameters_of asked.query) asked.moment what
-Says asked route.LabelNames tenant meaning = SaysLabels asked Names tenant meaning
-Says asked route.LabelValues tenant meaning = SaysLabels asked Values tenant meaning
-Says asked route.Series tenant meaning = SaysLabels asked Series tenant meaning
-Says asked one tenant meaning = ⊥
 
 -- why a request isn't served: its first refusal; or memory ran out, once memory is taken for it
 abbrev pub IsUnserved : Facts → Asked → Refused Refusal → Type 0

@@ -1,7 +1,8 @@
 // What the body of a query for labels asks for.
 ghost use Rattle.std.specs.Prelude.{◌≡◌, ◌≢◌, ◌≤◌, IfOk, MatchResult, length, map};
 ghost use Rattle.faults.specs.Answers.{IfFault, IsMapped};
-ghost use Rattle.request_meaning.specs.LabelAsks.{AreSelectors, IsAskOf, IsAskOfRefused, IsAskRefused, IsLabelAsk, IsLabelFault, IsSelectorsRefused, SaysLabelAsk, method_of, most_selectors, refusal_of};
+ghost use Rattle.request_meaning.specs.LabelAsks.{AreSelectors, IsLabelAsk, IsLabelFault, method_of, most_selectors};
+ghost use Rattle.request_meaning.specs.ReadParts.{IsAskOf, IsAskOfRefused, IsAskRefused, IsSelectorsRefused, SaysLabelAsk, refusal_of};
 
 use crate::ask::{LabelAsk, LabelQuery};
 use crate::method::LabelMethod;

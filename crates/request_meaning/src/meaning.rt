@@ -3,7 +3,8 @@ ghost use Rattle.std.specs.Prelude.{◌≡◌, true, ◌≢◌, MatchResult, Som
 ghost use Rattle.faults.specs.Answers.{IfFault};
 ghost use Rattle.request_meaning.specs.Facts.{facts_of};
 ghost use Rattle.request_meaning.specs.Forms.{is_built, is_coded, is_encoded, route_at, route_of, tenant_of};
-ghost use Rattle.request_meaning.specs.Meanings.{IsMisrouted, IsPushedFault, IsReadFault, IsRefusedOutright, IsUnserved, IsWriteFault, Means, Reaches, Says};
+ghost use Rattle.request_meaning.specs.Meanings.{IsMisrouted, IsPushedFault, IsReadFault, IsRefusedOutright, IsUnserved, IsWriteFault, Means, Reaches};
+ghost use Rattle.request_meaning.specs.ReadParts.{Says};
 ghost use Rattle.ingest.specs.Ingests.{SaysProfiles};
 ghost use Rattle.json_push.specs.Pushed.{SaysPushed};
 ghost use Rattle.query_parameters.specs.Parameters.{parameters_of};
@@ -64,7 +65,7 @@ fn judge<'r>(request: &'r Request, config: &Config) -> Result<(Route, &'r [u8]),
     if is_encoded(request) {
         return Err(Refusal::Encoded);
     }
-    if request.asked().is_some() {
+    if request.front().is_some() {
         return Err(Refusal::Unbuilt);
     }
     Ok((route, name))

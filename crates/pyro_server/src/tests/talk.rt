@@ -1,6 +1,6 @@
 // A session as a list of requests, each with the reply that is due.
 use super::session;
-use crate::Status;
+use crate::ExitStatus;
 use std::alloc::{AllocError, Global};
 use std::process::Abort;
 use std::test::Fail;
@@ -94,7 +94,7 @@ impl Talk {
     pub(super) fn holds(&self, rt: &impl Abort, kept: usize) -> Result<(), Fail> {
         let ran = session(self.alloc, &self.input)?;
         assert_eq!(rt; ran.stdio.given(), self.given.as_str().as_bytes());
-        assert_eq!(rt; ran.status, Status::Done);
+        assert_eq!(rt; ran.status, ExitStatus::Done);
         assert_eq!(rt; ran.history.len(), kept);
         Ok(())
     }

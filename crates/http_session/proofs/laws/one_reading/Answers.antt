@@ -1,6 +1,6 @@
 use Rattle.http_session.proofs.EndingLemmas.{endings_agree}
 use Rattle.http_session.proofs.StayLemmas.{takes_stay, ended_of_all, refused_of_all}
-use Rattle.http_session.proofs.TakesLemmas.{whole_stays, whole_is_one, requests_are_one, answered_of_all}
+use Rattle.http_session.proofs.TakesLemmas.{whole_stays, whole_is_one, requests_are_one, taken_of_all}
 use Rattle.http_session.proofs.laws.one_reading.Goals as goal
 
 pub returns-clause-stays : goal.returns-clause-stays
@@ -13,7 +13,7 @@ pub returns-clause-requests : goal.returns-clause-requests
 returns-clause-requests c = requests_are_one
 
 pub returns-clause-of_all : goal.returns-clause-of_all
-returns-clause-of_all c = answered_of_all
+returns-clause-of_all c = taken_of_all
 
 pub returns-clause-endings : goal.returns-clause-endings
 returns-clause-endings c = endings_agree

@@ -1,6 +1,6 @@
 use Rattle.std.proofs.Common.{◌≡◌, ◌+◌, ◌<◌, ◌∙◌, false, refl, ap, subst, arith, lit<, ℕ}
 use Rattle.http_session.specs.Limits.{most_requests}
-use Rattle.http_session.specs.Waiting.{Waiting}
+use Rattle.http_session.specs.Progress.{Progress}
 use Rattle.http_session.specs.Takes.{IsWhole}
 use Rattle.link_trait.proofs.GoesLemmas.{goes_then, goes_nowhere}
 use Rattle.request_meaning.specs.Facts.{facts_of}
@@ -12,45 +12,45 @@ use Rattle.pyro_server.proofs.session.serve.Goals as goal
 pub loop-number-init : goal.loop-number-init
 loop-number-init g c = record {
   bounded = λ tenant. rw c.requires.none (lit< tt);
-  going = ap (λ (w : Waiting). w.ended) c.new-reader.ensures;
-  number = ap (λ (w : Waiting). w.given + 1) c.new-reader.ensures;
+  reading = ap (λ (w : Progress). w.ended) c.new-reader.ensures;
+  number = ap (λ (w : Progress). w.given + 1) c.new-reader.ensures;
   served = goes_nowhere (SoFar (facts_of c.args.config.now) c.new-reader.result c.args.history.now.items) _
-      (at_first (facts_of c.args.config.now) c.new-reader.result c.args.history.now.items (ap (λ (w : Waiting). w.held) c.new-reader.ensures)
-      (ap (λ (w : Waiting). w.given) c.new-reader.ensures) c.requires.none);
+      (at_first (facts_of c.args.config.now) c.new-reader.result c.args.history.now.items (ap (λ (w : Progress). w.held) c.new-reader.ensures)
+      (ap (λ (w : Progress). w.given) c.new-reader.ensures) c.requires.none);
   opened = c.requires.open;
   quiet = refl;
 }
 
 pub loop-number-preserved : goal.loop-number-preserved
 loop-number-preserved g c =
-    let on = c.in-Answered-false.ensures.goes_on tt in
+    let on = c.in-Replied-false.ensures.continues tt in
     let counted = on.1 in
     let before = c.loop-number.invariant.number in
     let low = c.loop-number-test.true in
     let number : c.serve_next.new.reader.given ≡ c.loop-number.reader.given + 1 = omega arith in
     record {
-      bounded = c.in-Answered-false.ensures.bounded;
-      going = on.0;
+      bounded = c.in-Replied-false.ensures.bounded;
+      reading = on.0;
       number = omega arith;
       served = goes_then _ _ _ _ _ _
           (λ start between now. one_more (facts_of c.args.config.now) c.loop-number.reader c.serve_next.new.reader c.loop-number.history.items c.serve_next.new.history.items start between now number)
-          c.loop-number.invariant.served (rw c.in-Answered-false.close-test at c.in-Answered-false.ensures.served);
-      opened = c.in-Answered-false.ensures.open (λ is. cc);
-      quiet = c.in-Answered-false.ensures.quiet (λ is. cc) ∙ c.loop-number.invariant.quiet;
+          c.loop-number.invariant.served (rw c.in-Replied-false.close-test at c.in-Replied-false.ensures.served);
+      opened = c.in-Replied-false.ensures.open (λ is. cc);
+      quiet = c.in-Replied-false.ensures.quiet (λ is. cc) ∙ c.loop-number.invariant.quiet;
     }
 
-pub returns-in-Answered-true-clause-in_turn : goal.returns-in-Answered-true-clause-in_turn
-returns-in-Answered-true-clause-in_turn g c =
-    let on = c.in-Answered-true.ensures.goes_on tt in
+pub returns-in-Replied-true-clause-in_turn : goal.returns-in-Replied-true-clause-in_turn
+returns-in-Replied-true-clause-in_turn g c =
+    let on = c.in-Replied-true.ensures.continues tt in
     let counted = on.1 in
     let before = c.loop-number.invariant.number in
     let low = c.loop-number-test.true in
     let number : c.serve_next.new.reader.given ≡ c.loop-number.reader.given + 1 = omega arith in
     goes_then _ _ _ _ _ _
     (λ start between now far step. closed (facts_of c.args.config.now) c.loop-number.reader c.serve_next.new.reader c.loop-number.history.items c.serve_next.new.history.items start between now
-    c.in-Answered-true.close Closed number (λ requests rest shut long. (shut, λ all. omega arith)) (λ moment. refl) far step
-    (λ asked moment bytes rest whole same. same ∙ c.in-Answered-true.close-test))
-    c.loop-number.invariant.served c.in-Answered-true.ensures.served
+    c.in-Replied-true.close Closed number (λ requests rest shut long. (shut, λ all. omega arith)) (λ moment. refl) far step
+    (λ asked moment bytes rest whole same. same ∙ c.in-Replied-true.close-test))
+    c.loop-number.invariant.served c.in-Replied-true.ensures.served
 
 pub returns-in-Over-clause-in_turn : goal.returns-in-Over-clause-in_turn
 returns-in-Over-clause-in_turn g c =
@@ -58,9 +58,9 @@ returns-in-Over-clause-in_turn g c =
     (λ start between now. over (facts_of c.args.config.now) c.loop-number.reader c.serve_next.new.reader c.loop-number.history.items c.serve_next.new.history.items start between now c.in-Over.ending)
     c.loop-number.invariant.served c.in-Over.ensures.served
 
-pub returns-in-Answered-clause-in_turn : goal.returns-in-Answered-clause-in_turn
-returns-in-Answered-clause-in_turn g c =
-    let on = c.in-Answered.ensures.goes_on tt in
+pub returns-in-Replied-clause-in_turn : goal.returns-in-Replied-clause-in_turn
+returns-in-Replied-clause-in_turn g c =
+    let on = c.in-Replied.ensures.continues tt in
     let counted = on.1 in
     let before = c.loop-number.invariant.number in
     let high = c.loop-number-test.false in
@@ -69,9 +69,9 @@ returns-in-Answered-clause-in_turn g c =
     let number : c.serve_next-2.new.reader.given ≡ c.loop-number.reader.given + 1 = omega arith in
     goes_then _ _ _ _ _ _
     (λ start between now far step. closed (facts_of c.args.config.now) c.loop-number.reader c.serve_next-2.new.reader c.loop-number.history.items c.serve_next-2.new.history.items start between now
-    c.in-Answered.close LastRequest number (λ requests rest shut long. (shut, long ∙ last)) (λ moment. refl) far step
+    c.in-Replied.close LastRequest number (λ requests rest shut long. (shut, long ∙ last)) (λ moment. refl) far step
     (λ asked moment bytes rest whole same. last_closes asked moment bytes rest (let P : ℕ → Type 0 = λ n. IsWhole n moment bytes asked rest in subst P last whole)))
-    c.loop-number.invariant.served c.in-Answered.ensures.served
+    c.loop-number.invariant.served c.in-Replied.ensures.served
 
 pub returns-clause-in_turn : goal.returns-clause-in_turn
 returns-clause-in_turn g c =

@@ -8,7 +8,7 @@ use Rattle.pyro_server.proofs.session.serve.Given as goal
 abbrev pub invariant-loop-number : goal.invariant-loop-number
 invariant-loop-number g l = record {
   bounded : HasBoundedTotals l.history.items;
-  going : l.reader.ended ≡ false;
+  reading : l.reader.ended ≡ false;
   number : l.reader.given + 1 ≡ l.number;
   served : Goes (SoFar (facts_of l.config) l.reader l.history.items) (g.L.Link.told l.fn.stdio) (g.L.Link.told l.stdio);
   opened : g.L.Link.is_open l.stdio ≡ true;

@@ -1,8 +1,8 @@
 use Rattle.std.proofs.Common.{arith, map, subst, sym}
-use Rattle.request_meaning.specs.LabelAsks.{IsSelectorsRefused}
 use Rattle.request_meaning.proofs.MeaningLemmas.{told_so}
 use Rattle.request_meaning.proofs.LabelLemmas.{selector_read, selector_refused}
 use Rattle.request_meaning.proofs.label_form.read_selectors.Goals as goal
+use Rattle.request_meaning.specs.ReadParts.{IsSelectorsRefused}
 
 pub returns-in-Err : goal.returns-in-Err
 returns-in-Err c =

@@ -15,7 +15,7 @@ returns c =
     let h2 : List ℕ = c.keep-2.new.head.items in
     let h3 : List ℕ = c.keep-3.new.head.items in
     let g1 : Grows h0 h1 = c.in_ok-tenant.ensures.grows in
-    let g2 : Grows h1 h2 = c.in_ok-asked.ensures.grows in
+    let g2 : Grows h1 h2 = c.in_ok-front.ensures.grows in
     let g3 : Grows h2 h3 = c.in_ok-encoding.ensures.grows in
     let g13 : Grows h1 h3 = grows_then h1 h2 h3 g2 g3 in
     let g03 : Grows h0 h3 = grows_then h0 h1 h3 g1 g13 in
@@ -27,5 +27,5 @@ returns c =
     let query = span_grows h0 h3 c.split_target.result.1 g03 (subst (P c.split_target.result.1) shown c.split_target.ensures.within.1)
     ∙ sym (ap (λ (xs : List ℕ). span_bytes xs c.split_target.result.1) shown) ∙ c.split_target.ensures.query ∙ ap query_of target in
     let tenant = maybe_grows h1 h3 c.in_ok-tenant.tenant g13 c.in_ok-tenant.ensures.within ∙ c.in_ok-tenant.ensures.kept in
-    let asked = maybe_grows h2 h3 c.in_ok-asked.asked g3 c.in_ok-asked.ensures.within ∙ c.in_ok-asked.ensures.kept in
-    same_asked _ _ _ _ _ _ _ _ _ _ _ _ _ _ path query tenant asked c.in_ok-encoding.ensures.kept
+    let front = maybe_grows h2 h3 c.in_ok-front.front g3 c.in_ok-front.ensures.within ∙ c.in_ok-front.ensures.kept in
+    same_asked _ _ _ _ _ _ _ _ _ _ _ _ _ _ path query tenant front c.in_ok-encoding.ensures.kept

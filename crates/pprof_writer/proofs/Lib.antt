@@ -2,3 +2,13 @@ mod PlaceLemmas
 mod FrameLemmas
 mod TextLemmas
 mod WriterLemmas
+mod ListLemmas
+mod MessageLemmas
+mod PieceLemmas
+mod SaidLemmas
+mod AgainLemmas
+mod LookLemmas
+mod FaultlessLemmas
+mod SortedLemmas
+mod BoundLemmas
+mod BackLemmas

@@ -1,3 +1,5 @@
 pub mod Fields
 pub mod Tables
 pub mod Written
+pub mod Messages
+pub mod Laws

@@ -1,0 +1,78 @@
+use Rattle.std.proofs.Common.{ap, ◌∙◌, Err}
+use Rattle.disk_trait.specs.Disk.{Tells}
+use Rattle.history_files.proofs.OpenLemmas.{at_none, at_some, index_synced, looked_alike, none_listed, opened_alike, prepares, too_many}
+use Rattle.history_files.proofs.open.open_index.Goals as goal
+
+pub returns-in-Err-Damaged-clause-damaged : goal.returns-in-Err-Damaged-clause-damaged
+returns-in-Err-Damaged-clause-damaged g c t asked =
+    let old = g.D.Disk.view c.args.disk.now in
+    let mid = g.D.Disk.view c.sync_all.new.disk in
+    let t-mid : Tells mid = c.sync_all.ensures.goes_on.honest ∙ t in
+    too_many c.args.records old.files mid.files (c.in-Ok.ensures.told t) (c.in-Err-Damaged.ensures.damaged t-mid (ap Err c.in-Err-Damaged.field-0-is))
+
+pub returns-in-Err-Disk-open-clause-any_moment : goal.returns-in-Err-Disk-open-clause-any_moment
+returns-in-Err-Disk-open-clause-any_moment g c t quiet =
+    let old = g.D.Disk.view c.args.disk.now in
+    let mid = g.D.Disk.view c.sync_all.new.disk in
+    let t-mid : Tells mid = c.sync_all.ensures.goes_on.honest ∙ t in
+    opened_alike c.args.records old quiet mid _ c.sync_all.ensures.leads (c.open.ensures.any_moment t-mid (index_synced c.args.records old quiet mid c.sync_all.ensures.leads (c.in-Ok.ensures.told t)))
+
+pub returns-in-Ok-Some-clause-any_moment : goal.returns-in-Ok-Some-clause-any_moment
+returns-in-Ok-Some-clause-any_moment g c t quiet =
+    let old = g.D.Disk.view c.args.disk.now in
+    let mid = g.D.Disk.view c.sync_all.new.disk in
+    let t-mid : Tells mid = c.sync_all.ensures.goes_on.honest ∙ t in
+    looked_alike c.args.records old quiet (g.D.Disk.view c.open.new.disk) _
+    (opened_alike c.args.records old quiet mid _ c.sync_all.ensures.leads (c.open.ensures.any_moment t-mid (index_synced c.args.records old quiet mid c.sync_all.ensures.leads (c.in-Ok.ensures.told t))))
+    c.read_index.ensures.looks.stays
+
+pub returns-in-Ok-None-clause-any_moment : goal.returns-in-Ok-None-clause-any_moment
+returns-in-Ok-None-clause-any_moment g c t quiet =
+    let old = g.D.Disk.view c.args.disk.now in
+    let mid = g.D.Disk.view c.sync_all.new.disk in
+    let t-mid : Tells mid = c.sync_all.ensures.goes_on.honest ∙ t in
+    looked_alike c.args.records old quiet (g.D.Disk.view c.open.new.disk) _
+    (opened_alike c.args.records old quiet mid _ c.sync_all.ensures.leads (c.open.ensures.any_moment t-mid (index_synced c.args.records old quiet mid c.sync_all.ensures.leads (c.in-Ok.ensures.told t))))
+    c.read_index.ensures.looks.stays
+
+pub returns-in-Err-Memory-read_index-clause-any_moment : goal.returns-in-Err-Memory-read_index-clause-any_moment
+returns-in-Err-Memory-read_index-clause-any_moment g c t quiet =
+    let old = g.D.Disk.view c.args.disk.now in
+    let mid = g.D.Disk.view c.sync_all.new.disk in
+    let t-mid : Tells mid = c.sync_all.ensures.goes_on.honest ∙ t in
+    looked_alike c.args.records old quiet (g.D.Disk.view c.open.new.disk) _
+    (opened_alike c.args.records old quiet mid _ c.sync_all.ensures.leads (c.open.ensures.any_moment t-mid (index_synced c.args.records old quiet mid c.sync_all.ensures.leads (c.in-Ok.ensures.told t))))
+    c.read_index.ensures.looks.stays
+
+pub returns-in-Err-Disk-read_index-clause-any_moment : goal.returns-in-Err-Disk-read_index-clause-any_moment
+returns-in-Err-Disk-read_index-clause-any_moment g c t quiet =
+    let old = g.D.Disk.view c.args.disk.now in
+    let mid = g.D.Disk.view c.sync_all.new.disk in
+    let t-mid : Tells mid = c.sync_all.ensures.goes_on.honest ∙ t in
+    looked_alike c.args.records old quiet (g.D.Disk.view c.open.new.disk) _
+    (opened_alike c.args.records old quiet mid _ c.sync_all.ensures.leads (c.open.ensures.any_moment t-mid (index_synced c.args.records old quiet mid c.sync_all.ensures.leads (c.in-Ok.ensures.told t))))
+    c.read_index.ensures.looks.stays
+
+pub returns-in-Ok-None-clause-damaged : goal.returns-in-Ok-None-clause-damaged
+returns-in-Ok-None-clause-damaged g c t asked =
+    let old = g.D.Disk.view c.args.disk.now in
+    let mid = g.D.Disk.view c.sync_all.new.disk in
+    let new = g.D.Disk.view c.open.new.disk in
+    let t-mid : Tells mid = c.sync_all.ensures.goes_on.honest ∙ t in
+    let t-new : Tells new = c.open.ensures.goes_on.honest ∙ t-mid in
+    let ok = c.in-Ok-open.ensures.ok in
+    let settled = c.in-Ok-open.ensures.settled t-mid in
+    none_listed c.args.records old mid new c.in-Ok-open.journal (c.in-Ok.ensures.told t) (c.in-Ok.ensures.durable t) ok.0 ok.1 settled.0 settled.1 (c.in-Ok-open.ensures.within t-mid) t-new c.open.ensures.touches (c.in-Ok-open.ensures.others t-mid)
+    (at_none c.in-Ok-None.field-0 _ _ c.in-Ok-None.field-0-is (c.in-Ok-None.ensures.told t-new))
+
+pub returns-in-Ok-Some-clause-prepared : goal.returns-in-Ok-Some-clause-prepared
+returns-in-Ok-Some-clause-prepared g c t =
+    let old = g.D.Disk.view c.args.disk.now in
+    let mid = g.D.Disk.view c.sync_all.new.disk in
+    let new = g.D.Disk.view c.open.new.disk in
+    let t-mid : Tells mid = c.sync_all.ensures.goes_on.honest ∙ t in
+    let t-new : Tells new = c.open.ensures.goes_on.honest ∙ t-mid in
+    let ok = c.in-Ok-open.ensures.ok in
+    let settled = c.in-Ok-open.ensures.settled t-mid in
+    prepares c.args.records old mid new c.in-Ok-open.journal (c.in-Ok.ensures.told t) (c.in-Ok.ensures.durable t) ok.0 ok.1 settled.0 settled.1 (c.in-Ok-open.ensures.within t-mid) t-new c.open.ensures.touches (c.in-Ok-open.ensures.others t-mid)
+    _ c.in-Ok-Some.index c.read_index.ensures.looks (at_some c.in-Ok-Some.field-0 c.in-Ok-Some.index _ _ c.in-Ok-Some.field-0-is (c.in-Ok-Some.ensures.told t-new))

@@ -1,0 +1,128 @@
+// What an opening reads before it looks at the objects.
+ghost use Rattle.std.specs.Prelude.{◌≡◌, ◌<◌, ◌≤◌, ◌^◌, OnOk, IfOk, IfSome, IsErrOf, IsNone, IsSome, MatchOption, true};
+ghost use Rattle.disk_trait.specs.Disk.{Tells, Rose, GoesOn, Leads, Looks, Stays, IsDurable, IsQuiet};
+ghost use Rattle.disk_trait.specs.declared.disk.FileId.{FileId};
+ghost use Rattle.disk_trait.specs.declared.disk.FileId.TheVariants as names;
+ghost use Rattle.gate_journal.specs.Journal.{IsOpen, list_of};
+ghost use Rattle.metastore_index.specs.declared.entry.Entry as entries;
+ghost use Rattle.metastore_index.specs.Entries.{IndexView};
+ghost use Rattle.metastore_index.specs.Taken.{IsBodyOf};
+ghost use Rattle.history_files.specs.History.{IsBlamed, IsBounded, Lists};
+ghost use Rattle.history_files.specs.Standing.{IsPrepared, StandAlike};
+
+use crate::fault::{FilesFault, OpenFault};
+use disk_trait::{Disk, DiskError, FileId};
+use faults::Refused;
+use gate_journal::{Journal, JournalFault};
+use metastore_index::{Entry, Index};
+use std::alloc::Global;
+
+/// Where the pushes of an index file's entries end at most.
+const END_BOUND: u64 = 1 << 63;
+
+/// How long the objects of an index file's entries are at most, in bytes, and one more.
+const LENGTH_BOUND: u64 = 1 << 32;
+
+/// Syncs each file that is there.
+pub fn sync_all<D: Disk>(disk: &mut D, alloc: Global) -> Result<(), FilesFault>
+    ensures told { Tells (D.view disk.old) → OnOk result ((D.view disk.new).files ≡ (D.view disk.old).files) }
+    ensures durable { Tells (D.view disk.old) → OnOk result ((file : FileId) → IsSome ((D.view disk.old).files file) → IsDurable file (D.view disk.new)) }
+    ensures leads { Leads Stays (D.view disk.old) (D.view disk.new) }
+    ensures failed { IsErrOf result FilesFault.Disk → Rose (D.view disk.old).faults (D.view disk.new).faults }
+    ensures memory { IsErrOf result FilesFault.Memory → (D.view disk.new).faults ≡ (D.view disk.old).faults }
+    ensures quiet { OnOk result ((D.view disk.new).faults ≡ (D.view disk.old).faults) }
+    ensures goes_on { GoesOn (D.view disk.old) (D.view disk.new) }
+{
+    let names = match disk.files(alloc) {
+        Ok(names) => names,
+        Err(DiskError::Memory) => return Err(FilesFault::Memory),
+        Err(DiskError::Failed) => return Err(FilesFault::Disk),
+    };
+    for name in &names {
+        disk.sync(*name)?;
+    }
+    Ok(())
+}
+
+// The entry of a record, where it stays below its bounds.
+fn read_entry(body: &[u8; 63]) -> Option<Entry>
+    ensures body { IfSome result (λ entry. IsBodyOf body.now entry) }
+    ensures bounded { IfSome result (λ entry. IsBounded entry) }
+    ensures none { IsNone result → (entry : entries.Entry) → IsBodyOf body.now entry → ¬ (IsBounded entry) }
+{
+    let entry = Entry::read(body)?;
+    if entry.hi >= END_BOUND || entry.length >= LENGTH_BOUND {
+        return None;
+    }
+    Some(entry)
+}
+
+/// The index that the journal's records leave, and none where they leave none.
+pub fn read_index<D: Disk>(
+    disk: &mut D,
+    alloc: Global,
+    journal: &Journal,
+) -> Result<Option<Index>, FilesFault>
+    requires { Tells (D.view disk.old) → IsOpen (D.view disk.old) journal.now }
+    ensures told { Tells (D.view disk.old) → IfOk result (λ found. MatchOption found
+        ((index : IndexView) → ¬ (Lists (list_of (D.view disk.old) journal.now) index))
+        (λ index. Lists (list_of (D.view disk.old) journal.now) index)) }
+    ensures failed { IsErrOf result FilesFault.Disk → Rose (D.view disk.old).faults (D.view disk.new).faults }
+    ensures memory { IsErrOf result FilesFault.Memory → (D.view disk.new).faults ≡ (D.view disk.old).faults }
+    ensures quiet { OnOk result ((D.view disk.new).faults ≡ (D.view disk.old).faults) }
+    ensures looks { Looks (D.view disk.old) (D.view disk.new) }
+    ensures goes_on { GoesOn (D.view disk.old) (D.view disk.new) }
+{
+    let mut index = Index::new(alloc);
+    for i in 0..journal.bodies() {
+        let body = journal.body(disk, i)?;
+        let Some(entry) = read_entry(&body) else {
+            return Ok(None);
+        };
+        match index.apply(entry) {
+            Ok(()) => {}
+            Err(Refused::Fault(_)) => return Ok(None),
+            Err(Refused::Memory) => return Err(FilesFault::Memory),
+        }
+    }
+    Ok(Some(index))
+}
+
+/// Syncs each file that is there, and opens the index file, which may have so many records. What its objects hold isn't
+/// looked at.
+pub fn open_index<D: Disk>(
+    disk: &mut D,
+    alloc: Global,
+    records: u64,
+) -> Result<(Journal, Index), OpenFault>
+    requires { records ≤ 2 ^ 57 }
+    ensures journal { IfOk result (λ pair. (pair.0.file ≡ names.Index 0) × (pair.0.limit ≡ records) × (pair.0.sure ≡ true)) }
+    ensures prepared { Tells (D.view disk.old) → IfOk result (λ pair. IsPrepared records (D.view disk.old) (D.view disk.new) pair.0 pair.1) }
+    ensures damaged { Tells (D.view disk.old) → IsErrOf result OpenFault.Damaged → IsBlamed records (D.view disk.old).files (names.Index 0) }
+
+    // At each moment each image stands for what the files stood for, where nothing waited for a sync.
+    ensures any_moment { Tells (D.view disk.old) → IsQuiet (D.view disk.old)
+        → Leads (λ before image. StandAlike records (D.view disk.old).files image) (D.view disk.old) (D.view disk.new) }
+    ensures failed { IsErrOf result OpenFault.Disk → Rose (D.view disk.old).faults (D.view disk.new).faults }
+    ensures memory { IsErrOf result OpenFault.Memory → (D.view disk.new).faults ≡ (D.view disk.old).faults }
+    ensures damaged_quiet { IsErrOf result OpenFault.Damaged → (D.view disk.new).faults ≡ (D.view disk.old).faults }
+    ensures quiet { OnOk result ((D.view disk.new).faults ≡ (D.view disk.old).faults) }
+    ensures goes_on { GoesOn (D.view disk.old) (D.view disk.new) }
+{
+    match sync_all(disk, alloc) {
+        Ok(()) => {}
+        Err(FilesFault::Memory) => return Err(OpenFault::Memory),
+        Err(FilesFault::Disk) => return Err(OpenFault::Disk),
+    }
+    let journal = match Journal::open(disk, FileId::Index(0), records) {
+        Ok(journal) => journal,
+        Err(JournalFault::Damaged) => return Err(OpenFault::Damaged),
+        Err(JournalFault::Disk) => return Err(OpenFault::Disk),
+    };
+    match read_index(disk, alloc, &journal) {
+        Ok(Some(index)) => Ok((journal, index)),
+        Ok(None) => Err(OpenFault::Damaged),
+        Err(FilesFault::Memory) => Err(OpenFault::Memory),
+        Err(FilesFault::Disk) => Err(OpenFault::Disk),
+    }
+}

@@ -1,0 +1,4 @@
+pub mod RowLemmas
+pub mod HistoryLemmas
+pub mod BookLemmas
+pub mod VerdictLemmas

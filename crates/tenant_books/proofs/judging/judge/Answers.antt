@@ -1,0 +1,40 @@
+use Rattle.std.proofs.Common.{◌≡◌, ◌+◌, ◌<◌, ◌++◌, ◌∷◌, [], List, true, length, arith, sym, ap, ◌∙◌, subst}
+use Rattle.std.proofs.lemmas.List.{length_push}
+use Rattle.profile_model.specs.declared.push.Push.{Push}
+use Rattle.profile_model.specs.Limits.{total_bound}
+use Rattle.profile_model.specs.Pushes.{profiles_total}
+use Rattle.push_history.specs.History.{HasBoundedTotals, tenant_total}
+use Rattle.tenant_books.specs.Keeping.{is_kept}
+use Rattle.tenant_books.specs.Limits.{limit_of}
+use Rattle.tenant_books.specs.Verdicts.{AreVerdicts, IsVerdict}
+use Rattle.tenant_books.proofs.VerdictLemmas.{kept-behind, kept-bounded, kept-few, verdict-bounded, verdicts-more}
+use Rattle.tenant_books.proofs.judging.judge.Goals as goal
+
+pub loop-ask-preserved : goal.loop-ask-preserved
+loop-ask-preserved c =
+    let kept = c.loop-ask.kept.items in
+    let ask = c.in-Some.ask in
+    let verdict = c.verdict_after-verdict.result in
+    let limit = limit_of c.args.limits.now in
+    let few = c.loop-ask.invariant.few in
+    let long = length_push c.loop-ask.yielded ask in
+    let size = ap (length {A = Push}) c.deref.ensures.value in
+    let some = kept-few kept ask.push verdict in
+    let grown = ap (length {A = Push}) c.in_ok-keep.ensures in
+    record {
+      within =
+          subst HasBoundedTotals (sym c.in_ok-keep.ensures)
+          (kept-bounded kept ask.push verdict c.loop-ask.invariant.within
+          (subst (λ (pushes : List Push). is_kept verdict ≡ true → tenant_total pushes ask.push.tenant + profiles_total ask.push.profiles < total_bound) c.deref.ensures.value c.verdict_after-verdict.ensures.within));
+      few = omega arith;
+      verdicts = λ history are bounded end short.
+          let is = subst (λ (pushes : List Push). IsVerdict limit (history ++ pushes) ask verdict) c.deref.ensures.value (c.verdict_after-verdict.ensures.verdict history are bounded end (omega arith)) in
+          subst (λ told. AreVerdicts limit history (c.loop-ask.yielded ++ ask ∷ []) told (history ++ c.keep.new.kept.items)) (sym c.in_ok-push.ensures.items)
+          (subst (λ last. AreVerdicts limit history (c.loop-ask.yielded ++ ask ∷ []) (c.loop-ask.verdicts.items ++ verdict ∷ []) last)
+          (sym (ap (λ more. history ++ more) c.in_ok-keep.ensures ∙ kept-behind history kept ask.push verdict))
+          (verdicts-more limit history c.loop-ask.yielded c.loop-ask.verdicts.items (history ++ kept) ask verdict (c.loop-ask.invariant.verdicts history are bounded end (omega arith)) is));
+      bounded = λ history are bounded end short.
+          let is = subst (λ (pushes : List Push). IsVerdict limit (history ++ pushes) ask verdict) c.deref.ensures.value (c.verdict_after-verdict.ensures.verdict history are bounded end (omega arith)) in
+          subst HasBoundedTotals (sym (ap (λ more. history ++ more) c.in_ok-keep.ensures ∙ kept-behind history kept ask.push verdict))
+          (verdict-bounded limit (history ++ kept) ask verdict (c.loop-ask.invariant.bounded history are bounded end (omega arith)) c.verdict_after-verdict.ensures.limit is);
+    }

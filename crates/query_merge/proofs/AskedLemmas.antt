@@ -1,6 +1,6 @@
 -- What a query said of label sets.
-use Rattle.std.proofs.Common.{◌≡◌, ℕ, Bool, true, false, cond, List, refl, sym, ap, subst, ◌∙◌, Some, Result, Ok, Err}
-use Rattle.std.specs.Prelude.{◌&&◌, OnOk, OnErr, nat_eq}
+use Rattle.std.proofs.Common.{◌≡◌, Bool, true, false, cond, List, refl, sym, ap, subst, ◌∙◌, Some, Result, Ok, Err}
+use Rattle.std.specs.Prelude.{OnOk, OnErr, nat_eq}
 use Rattle.std.specs.Bool.{Decides}
 use Rattle.std.specs.BTreeMap.{BTreeMap, IsUnchanged, Updates, get, is_at}
 use Rattle.std.specs.Map.{lookup}

@@ -8,3 +8,4 @@ pub mod PlotLemmas
 pub mod GroupLemmas
 pub mod OrderLemmas
 pub mod QueryLemmas
+pub mod OnceLemmas

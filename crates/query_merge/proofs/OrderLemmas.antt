@@ -1,5 +1,5 @@
 -- What doesn't depend on the order of profiles.
-use Rattle.std.proofs.Common.{◌≡◌, ◌∙◌, ◌+◌, ◌*◌, ◌<◌, ◌≤◌, ◌||◌, ℕ, Bool, true, false, cond, List, [], ◌∷◌, ◌++◌, length, map, arith, Option, Some, None, Ordering, Less, Equal, Greater, refl, sym, ap, subst, true≢false}
+use Rattle.std.proofs.Common.{◌≡◌, ◌∙◌, ◌+◌, ◌≤◌, ◌||◌, ℕ, Bool, true, false, cond, List, [], ◌∷◌, length, map, arith, Some, None, Ordering, Less, Equal, Greater, refl, sym, ap, true≢false}
 use Rattle.std.specs.Prelude.{◌&&◌, filter, flat_map, sum_by}
 use Rattle.std.specs.Cmp.{IsTotalOrder, tied_itself}
 use Rattle.std.specs.Cmp.Lexicographic.{bytes_decides, nat_list_cmp_total, texts_ties}
@@ -9,7 +9,7 @@ use Rattle.std.specs.Ordering.{eq_by_cmp, is_eq, ordering_reverse}
 use Rattle.std.proofs.lemmas.List.Sorted.{All-permutation, Contains-permutation, IsPermutation-map, length_permutation, list_any-IsPermutation, sum_by-IsPermutation}
 use Rattle.std.proofs.lemmas.List.Sums.{sum_by-cons}
 use Rattle.label_queries.proofs.OrderLemmas.{ascending_are_members}
-use Rattle.label_queries.specs.Labels.{is_asked, label_sets_of, shown_labels}
+use Rattle.label_queries.specs.Labels.{is_asked, shown_labels}
 use Rattle.label_queries.specs.Ordered.{ascending}
 use Rattle.profile_model.proofs.SumLawLemmas.{sums_of-any_order}
 use Rattle.profile_model.specs.LabelOrder.{labels_cmp, labels_ties, labels_total}
@@ -20,13 +20,11 @@ use Rattle.profile_model.specs.SumLaw.{value_in}
 use Rattle.profile_model.specs.Sums.{total_of}
 use Rattle.profile_model.specs.TypeTexts.{type_text}
 use Rattle.profile_model.specs.declared.profile.Profile.{Profile}
-use Rattle.selector.specs.declared.query.Query.{Query}
 use Rattle.query_merge.specs.Asked as asked
 use Rattle.query_merge.specs.Laws.{SeriesInAnyOrder, SetsInAnyOrder, SpanInAnyOrder, StacksInAnyOrder, TypesInAnyOrder}
 use Rattle.query_merge.specs.Merging.{asked_samples}
 use Rattle.query_merge.specs.Plotted.{counts_at, total_of_any}
 use Rattle.query_merge.specs.Rows.{times_of}
-use Rattle.query_merge.specs.Spans.{IsSpanOf}
 use Rattle.query_merge.specs.TypeLists.{type_texts_of}
 use Rattle.query_merge.proofs.AskedLemmas.{labels_decide}
 use Rattle.query_merge.proofs.SetLemmas.{below_all, none_above}
@@ -81,7 +79,7 @@ module _ {A : Type 0} {cmp : A → A → Ordering} (o : IsTotalOrder cmp) (same 
 same_name : (x y : List ℕ) → name_cmp x y ≡ Equal → x ≡ y
 same_name x y is = (bytes_decides x y).0 (texts_ties x y ∙ ap is_eq is)
 
-same_labels : (x y : List Label) → labels_cmp x y ≡ Equal → x ≡ y
+pub same_labels : (x y : List Label) → labels_cmp x y ≡ Equal → x ≡ y
 same_labels x y is = (labels_decide x y).0 (labels_ties x y ∙ ap is_eq is)
 
 pub types_in_any_order : TypesInAnyOrder

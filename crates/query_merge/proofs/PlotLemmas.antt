@@ -1,6 +1,6 @@
 -- Values over time: stored, counted, and listed.
-use Rattle.std.proofs.Common.{◌≡◌, ◌∙◌, ◌+◌, ◌≤◌, ◌<◌, ◌||◌, ℕ, Bool, true, false, cond, List, [], ◌∷◌, ◌++◌, length, map, arith, Option, Some, None, Ordering, Less, Equal, Greater, refl, sym, ap, subst, append-nil, Result, Ok, Err}
-use Rattle.std.specs.Prelude.{◌≢◌, ◌&&◌, IfOk, filter, nat_eq, option_map, unwrap_or, sum_by}
+use Rattle.std.proofs.Common.{◌≡◌, ◌∙◌, ◌+◌, ◌≤◌, ℕ, Bool, true, false, cond, List, [], ◌∷◌, ◌++◌, map, arith, Option, Some, None, Ordering, Less, Equal, Greater, refl, sym, ap, subst, append-nil, Result, Ok, Err}
+use Rattle.std.specs.Prelude.{◌≢◌, ◌&&◌, IfOk, filter, nat_eq, option_map, unwrap_or}
 use Rattle.std.specs.BTreeMap.{BTreeMap, insert_entry, is_at}
 use Rattle.std.specs.List.{All, AllZip}
 use Rattle.std.specs.List.Sorted.{IsStrictlySortedBy}
@@ -17,12 +17,11 @@ use Rattle.profile_model.specs.Pushes.{profiles_total}
 use Rattle.profile_model.specs.Sums.{total_of}
 use Rattle.profile_model.specs.declared.profile.Profile.{Profile}
 use Rattle.query_merge.specs.Asked.{is_asked}
-use Rattle.query_merge.specs.Gathering.{AreGroupsOf, AreWithin, GroupsView, IsCounted, IsPlace, groups_in, points_in, points_of, value_of_point, with_group, with_value}
+use Rattle.query_merge.specs.Gathering.{AreGroupsOf, AreWithin, GroupsView, IsCounted, points_in, points_of, value_of_point, with_group, with_value}
 use Rattle.query_merge.specs.Grid.{point_of}
-use Rattle.query_merge.specs.Plotted.{ArePoints, AreSeriesOf, Group, Plot, counts_at, group_of, listed_at, total_of_any, value_at, value_in}
+use Rattle.query_merge.specs.Plotted.{AreSeriesOf, Group, Plot, counts_at, group_of, listed_at, total_of_any, value_at, value_in}
 use Rattle.query_merge.specs.declared.groups.Series.{Series}
 use Rattle.query_merge.proofs.AskedLemmas.{labels_decide}
-use Rattle.query_merge.proofs.SumLemmas.{eq_is}
 
 -- ---- stored groups, as they are listed
 

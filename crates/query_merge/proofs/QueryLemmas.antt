@@ -1,17 +1,17 @@
 -- Queries of one text, and the first points that aren't before a time.
-use Rattle.std.proofs.Common.{◌≡◌, ◌∙◌, ◌+◌, ◌*◌, ◌<◌, ◌≤◌, ◌/◌, ◌%◌, ℕ, Bool, true, false, ltb, List, [], arith, get_or, refl, sym, ap}
-use Rattle.std.specs.Prelude.{◌-◌, min}
+use Rattle.std.proofs.Common.{◌≡◌, ◌∙◌, ◌+◌, ◌*◌, ◌<◌, ◌≤◌, ℕ, Bool, true, false, ltb, [], arith, get_or, refl, sym, ap}
+use Rattle.std.specs.Prelude.{◌-◌}
 use Rattle.std.proofs.Math.Nat.{add-mul, mul-le-mul_right}
 use Rattle.std.proofs.lemmas.Bool.{ltb-false, ltb-true}
 use Rattle.std.specs.Int.{div_ceil}
 use Rattle.std.proofs.lemmas.Grind.{div_ceil_times}
-use Rattle.profile_model.specs.Kinds.{IsPart}
+use Rattle.profile_model.specs.Kinds.{IsPart, parts_of}
 use Rattle.profile_model.specs.ReadKinds.{parts_in}
 use Rattle.profile_model.specs.declared.kind.ProfileType.{ProfileType}
 use Rattle.selector.proofs.MeaningLemmas.{one_query}
-use Rattle.selector.specs.declared.query.Query.{Query}
 use Rattle.query_merge.specs.Grid.{width_of}
-use Rattle.query_merge.specs.Laws.{OneQuery, PointsAreFirst}
+use Rattle.query_merge.proofs.TypeLemmas.{parts_of_text}
+use Rattle.query_merge.specs.Laws.{OneQuery, OneType, PointsAreFirst}
 use Rattle.std.proofs.Props.{props}
 use mathlib.Core.HLevel.{is_prop→PathP}
 
@@ -36,6 +36,10 @@ query_once text one other (built, (parts, are)) (again, (same, too)) =
     let kind = one_kind one.kind other.kind (sym parts ∙ same) in
     let selector = (one_query text are.form.0 too.form.0 one.selector other.selector are.form.1 too.form.1).1 in
     λ i. record { kind = kind i; selector = selector i }
+
+-- types with one text are one type
+pub one_type : OneType
+one_type one other same = one_kind one other (sym (parts_of_text one) ∙ ap parts_of same ∙ parts_of_text other)
 
 -- ---- first points
 

@@ -1,7 +1,6 @@
 -- A span, and one profile more.
-use Rattle.std.proofs.Common.{◌≡◌, ◌≤◌, ◌<◌, ◌⊎◌, ℕ, ◌+◌, Bool, true, false, inl, inr, ltb, List, [], ◌∷◌, ◌++◌, arith, map, length, take, get_or, add-one, append_assoc, refl, sym, subst, ap, ◌∙◌}
+use Rattle.std.proofs.Common.{◌≡◌, ◌≤◌, ◌<◌, ◌⊎◌, ℕ, ◌+◌, Bool, true, false, inl, inr, ltb, List, [], ◌∷◌, ◌++◌, arith, length, take, get_or, add-one, append_assoc, refl, sym, subst, ap, ◌∙◌}
 use Rattle.std.specs.Prelude.{Contains, Some, max, min}
-use Rattle.std.specs.List.{All}
 use Rattle.std.proofs.Math.Seq.{take-suc}
 use Rattle.std.proofs.lemmas.Bool.{ltb-false, ltb-true}
 use Rattle.std.proofs.lemmas.List.{map-append}

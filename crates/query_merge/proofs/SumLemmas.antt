@@ -1,6 +1,6 @@
 -- Sums of two lists of samples, brought together.
 use Rattle.std.proofs.Common.{◌≡◌, ℕ, zero, suc, ◌+◌, ◌<◌, ◌≤◌, List, [], ◌∷◌, ◌++◌, Bool, true, false, cond, arith, Option, Some, Ordering, Less, Equal, Greater, refl, sym, ap, ◌∙◌, true≢false, length, take, get_or}
-use Rattle.std.specs.Prelude.{flat_map, fold, if◌then◌else◌, sum_by, unwrap_or}
+use Rattle.std.specs.Prelude.{flat_map, if◌then◌else◌, unwrap_or}
 use Rattle.std.specs.BTreeMap.{is_at}
 use Rattle.std.specs.List.Sorted.{IsStrictlySortedBy}
 use Rattle.std.specs.Map.{keys_of, lookup}

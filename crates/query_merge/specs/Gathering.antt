@@ -1,12 +1,11 @@
 -- Groups and their points while they are gathered.
-use Rattle.std.specs.Prelude.{◌≡◌, ◌≢◌, ◌&&◌, ℕ, ◌+◌, ◌<◌, ◌≤◌, List, [], Option, Some, None, if◌then◌else◌, map, unwrap_or, true, false}
+use Rattle.std.specs.Prelude.{◌≡◌, ◌≢◌, ◌&&◌, ℕ, ◌+◌, ◌≤◌, List, [], Option, Some, None, if◌then◌else◌, map, unwrap_or, true, false}
 use Rattle.std.specs.BTreeMap.{BTreeMap, insert_entry, is_at}
 use Rattle.std.specs.List.{All}
 use Rattle.std.specs.Map.{lookup, values_of}
 use Rattle.std.specs.Ordering.{is_eq, nat_cmp}
 use Rattle.profile_model.specs.LabelOrder.{labels_cmp}
 use Rattle.profile_model.specs.LabelSets.{Label}
-use Rattle.profile_model.specs.Limits.{total_bound}
 use Rattle.profile_model.specs.Pushes.{profiles_total}
 use Rattle.profile_model.specs.declared.profile.Profile.{Profile}
 use Rattle.query_merge.specs.Asked.{is_asked}

@@ -2,6 +2,8 @@
 use Rattle.std.specs.Prelude.{◌≡◌, ℕ, ◌+◌, ◌*◌, ◌<◌, ◌≤◌, List, Ok, Option}
 use Rattle.std.specs.List.Sorted.{IsPermutation}
 use Rattle.label_queries.specs.Labels.{label_sets_of}
+use Rattle.profile_model.specs.TypeTexts.{type_text}
+use Rattle.profile_model.specs.declared.kind.ProfileType.{ProfileType}
 use Rattle.profile_model.specs.declared.profile.Profile.{Profile}
 use Rattle.selector.specs.Matching.{Matching}
 use Rattle.selector.specs.Read.{IsReadQuery}
@@ -30,6 +32,22 @@ abbrev pub SeriesInAnyOrder : Type 0
 SeriesInAnyOrder =
     (plot : Plot) (profiles others : List Profile) (groups : List Group) → IsPermutation profiles others
     → AreSeriesOf plot profiles groups → AreSeriesOf plot others groups
+
+-- ---- answers are told once
+
+-- profiles have one span
+abbrev pub OneSpan : Type 0
+OneSpan = (profiles : List Profile) (one other : Option (ℕ × ℕ)) → IsSpanOf profiles one → IsSpanOf profiles other → one ≡ other
+
+-- profiles have one list of series
+abbrev pub OneSeries : Type 0
+OneSeries = (plot : Plot) (profiles : List Profile) (one other : List Group) → AreSeriesOf plot profiles one → AreSeriesOf plot profiles other → one ≡ other
+
+-- types with one text are one type
+abbrev pub OneType : Type 0
+OneType = (one other : ProfileType) → type_text one ≡ type_text other → one ≡ other
+
+-- ---- points and queries
 
 -- one of the points, not before the time, and none of the points that aren't before it is earlier
 pub record IsFirstPoint (start width time point : ℕ) : Type 0 where

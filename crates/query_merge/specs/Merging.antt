@@ -1,5 +1,5 @@
 -- Sums of stacks while they are gathered.
-use Rattle.std.specs.Prelude.{◌≡◌, ℕ, Bool, List, Some, flat_map, fold}
+use Rattle.std.specs.Prelude.{◌≡◌, Bool, List, Some, flat_map, fold}
 use Rattle.std.specs.BTreeMap.{BTreeMap, get}
 use Rattle.profile_model.specs.LabelOrder.{labels_cmp}
 use Rattle.profile_model.specs.LabelSets.{Label}

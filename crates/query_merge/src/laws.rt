@@ -1,5 +1,5 @@
 // What holds of all answers.
-ghost use Rattle.query_merge.specs.Laws.{OneQuery, PointsAreFirst, SeriesInAnyOrder, SetsInAnyOrder, SpanInAnyOrder, StacksInAnyOrder, TypesInAnyOrder};
+ghost use Rattle.query_merge.specs.Laws.{OneQuery, OneSeries, OneSpan, OneType, PointsAreFirst, SeriesInAnyOrder, SetsInAnyOrder, SpanInAnyOrder, StacksInAnyOrder, TypesInAnyOrder};
 
 /// In whatever order rows and parts come, they come to the same. It does nothing: its clauses are the law.
 pub fn rows_in_any_order()
@@ -8,6 +8,14 @@ pub fn rows_in_any_order()
     ensures sets { SetsInAnyOrder }
     ensures stacks { StacksInAnyOrder }
     ensures series { SeriesInAnyOrder }
+{}
+
+/// Rows have one span and one list of series, and texts of types tell the types, so what the methods here answer is the only
+/// right answer. It does nothing: its clauses are the law.
+pub fn answers_are_told_once()
+    ensures span { OneSpan }
+    ensures series { OneSeries }
+    ensures types { OneType }
 {}
 
 /// A profile counts at the first point that isn't before its time. It does nothing: its clause is the law.

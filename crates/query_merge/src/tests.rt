@@ -358,10 +358,16 @@ fn profiles_count_at_the_first_point_that_is_not_before_them(rt: HostRuntime) ->
 
 // ---- two merges
 
-fn joins(alloc: Global, first: &[Sample], second: &[Sample], expected: &str) -> Result<bool, Fail> {
-    let mut merge = merge_of(alloc, CPU)?;
+fn joins(
+    alloc: Global,
+    query: &str,
+    first: &[Sample],
+    second: &[Sample],
+    expected: &str,
+) -> Result<bool, Fail> {
+    let mut merge = merge_of(alloc, query)?;
     add_to_merge(alloc, &mut merge, first)?;
-    let mut other = merge_of(alloc, CPU)?;
+    let mut other = merge_of(alloc, query)?;
     add_to_merge(alloc, &mut other, second)?;
     merge.join(other)?;
     Ok(sums_text(alloc, &merge.stacks())?.as_str() == expected)
@@ -370,15 +376,16 @@ fn joins(alloc: Global, first: &[Sample], second: &[Sample], expected: &str) -> 
 #[test]
 fn two_merges_of_a_query_are_joined(rt: HostRuntime) -> Result<(), Fail> {
     let alloc = rt.alloc();
-    assert!(rt; joins(alloc, &EARLY, &LATE, "a 9;b 6;")?);
-    assert!(rt; joins(alloc, &EARLY, &[], "a 1;b 2;")?);
-    assert!(rt; joins(alloc, &[], &EARLY, "a 1;b 2;")?);
+    assert!(rt; joins(alloc, CPU, &EARLY, &LATE, "a 9;b 6;")?);
+    assert!(rt; joins(alloc, CPU, &EARLY, &[], "a 1;b 2;")?);
+    assert!(rt; joins(alloc, CPU, &[], &EARLY, "a 1;b 2;")?);
     Ok(())
 }
 
 #[test]
 fn laws_take_no_step(_rt: HostRuntime) {
     rows_in_any_order();
+    answers_are_told_once();
     points_are_first();
     one_query_of_a_text();
 }

@@ -1,9 +1,9 @@
-use Rattle.std.proofs.Common.{◌≡◌, ◌∙◌, ◌+◌, ◌<◌, ◌^◌, ℕ, List, ap, arith, map, rules, subst, sym}
+use Rattle.std.proofs.Common.{◌≡◌, ◌∙◌, ℕ, List, ap, arith, rules}
 use Rattle.std.specs.Prelude.{Option, unwrap_or}
 use Rattle.std.proofs.lemmas.Result.{on_ok_weaker}
-use Rattle.std.specs.BTreeMap.{BTreeMap, get, insert_entry}
+use Rattle.std.specs.BTreeMap.{BTreeMap, get}
 use Rattle.profile_model.specs.LabelOrder.{labels_cmp}
-use Rattle.query_merge.specs.Gathering.{groups_in, points_of, value_of_point, with_value}
+use Rattle.query_merge.specs.Gathering.{value_of_point, with_value}
 use Rattle.query_merge.proofs.PlotLemmas.{lent_points, put_shown}
 use Rattle.query_merge.proofs.groups.add_in.Goals as goal
 

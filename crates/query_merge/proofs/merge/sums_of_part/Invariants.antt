@@ -1,4 +1,4 @@
-use Rattle.std.proofs.Common.{◌≡◌, ◌≤◌, [], drop, take}
+use Rattle.std.proofs.Common.{◌≡◌, ◌≤◌, drop, take}
 use Rattle.profile_model.specs.Pushes.{profiles_total}
 use Rattle.profile_model.specs.Sums.{total_of}
 use Rattle.query_merge.specs.Asked.{stacks_of}

@@ -1,4 +1,4 @@
-use Rattle.std.proofs.Common.{◌≡◌, ◌∙◌, List, ap, arith, filter, get_or, length, subst, take}
+use Rattle.std.proofs.Common.{◌≡◌, ◌∙◌, List, ap, arith, filter, get_or, length, take}
 use Rattle.std.proofs.lemmas.List.{take_all}
 use Rattle.profile_model.specs.LabelSets.{Label}
 use Rattle.query_merge.proofs.GroupLemmas.{all_seen, none_seen, one_seen, stays_after}

@@ -1,4 +1,4 @@
-use Rattle.std.proofs.Common.{◌≡◌, ◌∙◌, ◌+◌, ℕ, List, ap, arith, sym}
+use Rattle.std.proofs.Common.{◌≡◌, ◌∙◌, ◌+◌, ℕ, List, ap, arith}
 use Rattle.std.specs.Prelude.{unwrap_or, Option}
 use Rattle.query_merge.specs.Gathering.{GroupsView, groups_in, points_of, value_of_point, with_group}
 use Rattle.query_merge.specs.Plotted.{Group, listed_at}

@@ -1,5 +1,4 @@
-use Rattle.std.proofs.Common.{◌≡◌, ◌∙◌, List, ap}
-use Rattle.query_merge.specs.Gathering.{GroupsView}
+use Rattle.std.proofs.Common.{◌∙◌, List, ap}
 use Rattle.query_merge.specs.Plotted.{Group}
 use Rattle.query_merge.proofs.PlotLemmas.{same_groups}
 use Rattle.query_merge.proofs.groups.GroupsClone.clone.Goals as goal

@@ -1,5 +1,4 @@
-use Rattle.std.proofs.Common.{◌≡◌, ap, rules, sym, ◌∙◌}
-use Rattle.selector.specs.declared.query.Query.{Query}
+use Rattle.std.proofs.Common.{◌≡◌, rules, ◌∙◌}
 use Rattle.query_merge.specs.Asked.{stacks_of}
 use Rattle.query_merge.specs.Merging.{asked_samples}
 use Rattle.query_merge.proofs.SumLemmas.{of_both}

@@ -1,6 +1,6 @@
 use Rattle.std.proofs.Common.{map, subst, sym}
 use Rattle.std.specs.Prelude.{IfOk}
-use Rattle.query_merge.specs.Gathering.{AreGroupsOf, ArePointsOf, PointsView}
+use Rattle.query_merge.specs.Gathering.{ArePointsOf, PointsView}
 use Rattle.query_merge.specs.Plotted.{AreSeriesOf}
 use Rattle.query_merge.proofs.PlotLemmas.{all_series, listed_one}
 use Rattle.query_merge.proofs.points.Points.series.Goals as goal

@@ -23,8 +23,8 @@ use Rattle.pprof_codec.specs.declared.fault.PprofFault.{PprofFault}
 use Rattle.pprof_codec.specs.declared.fault.PprofFault.TheVariants.{Weight}
 use Rattle.pprof_codec.specs.Checks.{begins_empty, fault_if, faults_of, first_of, weight_faults}
 use Rattle.pprof_codec.specs.Members.{text_at}
-use Rattle.pprof_codec.specs.Profiles.{held_weight, parts_of, profile_of, profiles_of, samples_of, stacks_weight, weight_of}
-use Rattle.pprof_codec.specs.Read.{IsBroken, IsMessageFault, IsReadPprof}
+use Rattle.pprof_codec.specs.Profiles.{held_of, held_weight, parts_of, profile_of, profiles_of, samples_of, stacks_weight, weight_of}
+use Rattle.pprof_codec.specs.Read.{AreProfilesOf, IsBroken, IsMessageFault, IsReadPprof}
 use Rattle.pprof_writer.specs.Laws.{AreReadable, IsReadAs, held_again, said_parts}
 use Rattle.pprof_writer.specs.Messages.{AreHeld, said}
 use Rattle.pprof_writer.specs.Tables.{frames_in, is_among, place_of, texts_of, type_texts, with_text}
@@ -185,3 +185,12 @@ module _ (base : Base) (kind : ProfileType) (sums : List Sample) (readable : Are
       h.own ∙ ap (profiles_of base) same ∙ profiles-are
   read-again (Err fault) h =
       ⊎_elim (λ gzip. plain gzip.0) (λ rest. ⊎_elim (λ broken. not-broken fault broken) (λ message. no-fault fault message) rest.1) h
+
+  pub profile-again : (profile : Profile) → held_of profile ≡ held_again base kind sums → AreProfilesOf base (written_pprof kind sums) (profile ∷ [])
+  profile-again profile same = record {
+    plain = plain;
+    pprof = whole;
+    spelled = written_is kind sums are_held;
+    faultless = faultless;
+    own = ap (λ held. held ∷ []) same ∙ sym profiles-are;
+  }

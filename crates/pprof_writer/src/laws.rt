@@ -1,11 +1,12 @@
 // Laws of what is written. Each function states one, and does nothing.
-ghost use Rattle.std.specs.Prelude.{List, Ok, Result, Vec};
+ghost use Rattle.std.specs.Prelude.{◌≡◌, List, [], ◌∷◌, Ok, Result, Vec};
 ghost use Rattle.std.specs.declared.alloc.Global.{Global};
 ghost use Rattle.profile_model.specs.Sums.{Sample};
 ghost use Rattle.profile_model.specs.declared.kind.ProfileType.{ProfileType};
 ghost use Rattle.profile_model.specs.declared.profile.Profile.{Profile};
 ghost use Rattle.pprof_message.specs.Read.{IsReadMessage};
-ghost use Rattle.pprof_codec.specs.Read.{IsReadPprof};
+ghost use Rattle.pprof_codec.specs.Profiles.{held_of};
+ghost use Rattle.pprof_codec.specs.Read.{AreProfilesOf, IsReadPprof};
 ghost use Rattle.pprof_codec.specs.declared.base.Base.{Base};
 ghost use Rattle.pprof_codec.specs.declared.fault.PprofFault.{PprofFault};
 ghost use Rattle.pprof_writer.specs.Laws.{AreReadable, IsReadAs, held_again};
@@ -20,9 +21,12 @@ pub fn written_is_a_message()
 {}
 
 /// What `write_pprof` writes is read with any base as one profile of the same sums and the same last four parts of
-/// the type, where it weighs no more than a push may and the parts hold no mark.
+/// the type, where it weighs no more than a push may and the parts hold no mark: a right answer is such a profile, and each
+/// such profile is a right answer.
 pub fn written_is_read_back()
-    ensures { (base : Base) (kind : ProfileType) (sums : List Sample) → AreReadable base kind sums
+    ensures answers { (base : Base) (kind : ProfileType) (sums : List Sample) → AreReadable base kind sums
         → (answer : Result (Vec Profile Global) PprofFault) → IsReadPprof base (written_pprof kind sums) answer
         → IsReadAs (held_again base kind sums) answer }
+    ensures profile { (base : Base) (kind : ProfileType) (sums : List Sample) → AreReadable base kind sums
+        → (profile : Profile) → held_of profile ≡ held_again base kind sums → AreProfilesOf base (written_pprof kind sums) (profile ∷ []) }
 {}

@@ -169,6 +169,13 @@ pub half_values : (frames : List Frame) (values : List Value) (stacks : List (Li
     → IsWhole frames values → IsHalf frames values (length frames) stacks path told → nodes_with stacks told ≡ map (node_at (nodes_in frames values)) stacks
 half_values frames values stacks path told whole half = half.here ∙ ap (λ ns. map (node_at ns) stacks) (take_end frames values whole)
 
+pub half_sum : (frames : List Frame) (values : List Value) (stacks : List (List (List ℕ))) (path : List (List ℕ)) (told : List Value)
+    → IsWhole frames values → IsHalf frames values (length frames) stacks path told
+    → sum_by (λ n. n.own) (map (node_at (nodes_in frames values)) stacks) ≡ sum_by (λ n. n.own) (nodes_in frames values)
+half_sum frames values stacks path told whole half =
+    ap (λ (ns : List Node). sum_by (λ n. n.own) ns) (sym (half_values frames values stacks path told whole half)) ∙ sym (own-all (nodes_with stacks told))
+    ∙ half.below [] ∙ ap (own_below []) (take_end frames values whole) ∙ own-all (nodes_in frames values)
+
 pub half_side : (frames : List Frame) (values : List Value) (stacks : List (List (List ℕ))) (path : List (List ℕ)) (told : List Value)
     → IsWhole frames values → IsHalf frames values (length frames) stacks path told → AllByRecursion (λ q. 0 < length q) stacks → IsSide stacks told
 half_side frames values stacks path told whole half some =

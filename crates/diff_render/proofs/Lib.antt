@@ -6,3 +6,4 @@ pub mod BranchLemmas
 pub mod JoinLemmas
 pub mod EndLemmas
 pub mod EqualLemmas
+pub mod SideLemmas

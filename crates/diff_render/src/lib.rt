@@ -7,7 +7,7 @@ mod joined;
 mod laws;
 
 pub use doubles::{DoubleFlame, double};
-pub use laws::equal_sides_show_equal_numbers;
+pub use laws::{each_side_stays_one_side, equal_sides_show_equal_numbers};
 
 #[cfg(test)]
 mod tests;

@@ -1,0 +1,3 @@
+-- a store as contracts see it, and what becomes of it
+pub mod Store
+pub mod Changes

@@ -1,3 +1,0 @@
--- a store as contracts see it, and what becomes of it
-pub mod Store
-pub mod Changes

@@ -1,11 +1,11 @@
 -- What an opening leads to.
-use Rattle.std.proofs.Common.{◌≡◌, ℕ, ◌<◌, ◌≤◌, List, length, take, Option, Some, None, refl, sym, ◌∙◌, ap, subst, arith}
+use Rattle.std.proofs.Common.{◌≡◌, ◌⊎◌, ⊎_elim, ℕ, ◌<◌, ◌≤◌, List, length, take, Option, Some, None, refl, sym, ◌∙◌, ap, subst, arith}
 use Rattle.std.specs.Prelude.{IsSome, MatchOption}
 use Rattle.std.proofs.lemmas.Option.{same_Some}
 use Rattle.disk_trait.specs.declared.disk.FileId.{FileId}
 use Rattle.disk_trait.specs.declared.disk.FileId.TheVariants.{Index, Object}
 use Rattle.disk_trait.specs.Disk.{Files, DiskView, Tells, Leads, Looks, Stays, Touches, IsDurable, IsQuiet, bytes_of}
-use Rattle.disk_trait.proofs.Steps.{goes_on, widen, stays_after, durable_beside, looked_durable}
+use Rattle.disk_trait.proofs.Steps.{goes_on, widen, stays_after, stays_before, durable_beside, looked_durable}
 use Rattle.gate_journal.specs.Slots.{bodies_of, AtRest}
 use Rattle.gate_journal.specs.Journal.{JournalView, list_of, InAnyWay, IsSettled, IsUnsettled, MaybeAppended, OthersStay, SameBodies}
 use Rattle.metastore_index.specs.declared.entry.Entry.{Entry}
@@ -14,11 +14,25 @@ use Rattle.profile_model.specs.declared.push.Push.{Push}
 use Rattle.push_history.specs.History.{HasBoundedTotals}
 use Rattle.history_files.specs.History.{AreHeld, IsBlamed, Lists, StandFor}
 use Rattle.history_files.specs.History.IsBlamed.{index as no_index}
-use Rattle.history_files.specs.Standing.{IsAtRest, IsInFlight, IsPrepared, StandAlike}
+use Rattle.history_files.specs.Standing.{IsAtRest, IsInFlight, IsPrepared, IsSynced, StandAlike}
 use Rattle.history_files.proofs.HeldLemmas.{held_alike}
 use Rattle.history_files.proofs.KeepLemmas.{quiet_alike}
 use Rattle.history_files.proofs.RestLemmas.{flies_still}
 use Rattle.history_files.proofs.StandLemmas.{alike, not_index}
+
+-- ---- other files
+
+module _ (file : FileId) where
+  pub still_beside : {old new : DiskView} → Leads Stays old new → Leads (OthersStay file) old new
+  still_beside look = widen look (λ before image left stays other differs. ap (λ (f : Files). f other) stays)
+
+  -- the files are synced, and a journal is opened on this one
+  pub opened_beside : {old mid new : DiskView} → Leads Stays old mid → Leads (Touches file InAnyWay) mid new → Leads (OthersStay file) old new
+  opened_beside look run = stays_before {one = OthersStay file} (λ before left other differs. refl) look (widen run (λ before image left touch. touch.others))
+
+  -- it is looked at
+  pub looked_beside : {old mid new last : DiskView} → Leads Stays old mid → Leads (Touches file InAnyWay) mid new → Leads Stays new last → Leads (OthersStay file) old last
+  looked_beside look run more = stays_after {one = OthersStay file} (opened_beside look run) more
 
 -- ---- each moment, where nothing waited for a sync
 
@@ -45,6 +59,43 @@ module _ (records : ℕ) (old : DiskView) (quiet : IsQuiet old) where
   pub looked_alike : (mid new : DiskView) → Leads (λ before image. StandAlike records old.files image) old mid → Leads Stays mid new
       → Leads (λ before image. StandAlike records old.files image) old new
   looked_alike mid new one two = stays_after one two
+
+-- ---- each moment after the sync, where calls waited for one
+
+module _ (records : ℕ) (old mid : DiskView) (synced : IsSynced old mid) (history : List Push) (stands : StandFor records old.files history)
+    (listed : IsSome (old.files (Index 0)) ⊎ IsDurable (Index 0) old) where
+  pub index_waited : IsDurable (Index 0) mid
+  index_waited image left = ⊎_elim
+      (λ there. synced.durable (Index 0) there image left)
+      (λ durable.
+      let before = synced.stays.now image left in
+      ap (λ (f : Files). f (Index 0)) before.2 ∙ durable before.0 before.1 ∙ sym (ap (λ (f : Files). f (Index 0)) synced.files))
+      listed
+
+  -- files with the index file's bodies, and with each object that was there
+  stand_by : (image : Files) → bodies_of (bytes_of (image (Index 0))) ≡ bodies_of (bytes_of (old.files (Index 0)))
+      → ((id : ℕ) → IsSome (old.files (Object id)) → image (Object id) ≡ old.files (Object id)) → StandFor records image history
+  stand_by image bodies objects = record {
+    index = stands.index;
+    has = record {
+      lists = subst (λ (bs : List (List ℕ)). Lists bs stands.index) (sym bodies) stands.has.lists;
+      few = omega (arith, ap length bodies, stands.has.few);
+    };
+    held = held_alike old.files image stands.index.entries history objects stands.held;
+    totals = stands.totals;
+  }
+
+  there_in : (image : Files) → mid.images_now image → (file : FileId) → IsSome (old.files file) → image file ≡ old.files file
+  there_in image left file there = synced.durable file there image left ∙ ap (λ (f : Files). f file) synced.files
+
+  index_in : (image : Files) → mid.images_now image → image (Index 0) ≡ old.files (Index 0)
+  index_in image left = index_waited image left ∙ ap (λ (f : Files). f (Index 0)) synced.files
+
+  -- the journal is opened, and its index looked at
+  pub opened_stand : (new last : DiskView) → Leads (Touches (Index 0) SameBodies) mid new → Leads Stays new last → Leads (λ before image. StandFor records image history) mid last
+  opened_stand new last run look = stays_after (widen run (λ before image left step.
+      stand_by image (step.here ∙ ap (λ (o : Option (List ℕ)). bodies_of (bytes_of o)) (index_in before left))
+      (λ id there. step.others (Object id) (λ same. not_index id (sym same)) ∙ there_in before left (Object id) there))) look
 
 -- ---- what was opened
 

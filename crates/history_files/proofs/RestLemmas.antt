@@ -17,6 +17,15 @@ use Rattle.history_files.specs.Standing.{AllHold, Commits, Holds, IsAtRest, IsIn
 use Rattle.history_files.proofs.HeldLemmas.{IsDead, held_beside}
 use Rattle.history_files.proofs.StandLemmas.{dead_id, dead_index, lists_ids, lists_once, lists_push, not_index, stands_for}
 
+-- ---- other files
+
+-- a call on one file, and one on another, change no third
+pub besides_both : {one two : Option (List ℕ) → Option (List ℕ) → Type 0} {old mid new : DiskView} (first second : FileId) → Leads (Touches first one) old mid → Leads (Touches second two) mid new
+    → Leads (λ before image. (file : FileId) → file ≢ first → file ≢ second → image file ≡ before file) old new
+besides_both first second run more = goes_on run more
+    (λ before image left touch file differs differs_too. touch.others file differs)
+    (λ before between image left touch now touch_too file differs differs_too. touch_too.others file differs_too ∙ touch.others file differs)
+
 -- ---- each image
 
 -- each image of a store at rest stands for the history

@@ -9,7 +9,7 @@ use Rattle.disk_trait.specs.Disk.{Files, DiskView, Tells, Leads, Stays, Touches,
 use Rattle.disk_trait.proofs.Steps.{goes_on, widen, still}
 use Rattle.metastore_index.specs.declared.entry.Entry.{Entry}
 use Rattle.history_files.specs.History.{StandFor}
-use Rattle.history_files.specs.Standing.{Spares, Fewer, NoneFrom, is_spare, is_spare_file}
+use Rattle.history_files.specs.Standing.{Spares, Fewer, KeepsLive, NoneFrom, is_spare, is_spare_file}
 use Rattle.history_files.proofs.HeldLemmas.{IsDead}
 use Rattle.history_files.proofs.RestLemmas.{rests_stand, rests_beside, rests_still, touched_stand}
 
@@ -64,6 +64,40 @@ spares_step {D} view old new entries LimitsFile tells same = subst (λ (d : D). 
 -- after a look
 pub spares_look : (old new : DiskView) (entries : List Entry) → Tells new → Leads Stays old new → Spares entries old new
 spares_look old new entries tells look journal index history same it = (rests_still old new journal index history it tells look, widen look (λ d image left stays. subst (λ (f : Files). StandFor journal.limit f history) (sym stays) (rests_stand old journal index history it d left)))
+
+-- ---- what stays
+
+-- a step on an object that is no entry's leaves each other file
+pub live_beside : {step : Option (List ℕ) → Option (List ℕ) → Type 0} (entries : List Entry) (file : FileId) (before after : Files)
+    → is_spare_file file entries ≡ true → Touches file step before after → KeepsLive entries before after
+live_beside entries file before after spare touch other live =
+    touch.others other (λ same. absurd (false≢true (sym live ∙ ap (λ (f : FileId). is_spare_file f entries) same ∙ spare)))
+
+module _ (entries : List Entry) where
+  pub live_look : {old new : DiskView} → Leads Stays old new → Leads (KeepsLive entries) old new
+  live_look look = widen look (λ before image left stays file live. ap (λ (f : Files). f file) stays)
+
+  pub live_again : {old mid new : DiskView} → Leads (KeepsLive entries) old mid → Leads (KeepsLive entries) mid new → Leads (KeepsLive entries) old new
+  live_again one two = goes_on one two (λ before image left step. step) (λ before between image left first now second file live. second file live ∙ first file live)
+
+  module _ {D : Type 0} (view : D → DiskView) (old new : D) (file : FileId) where
+    -- one removal, also one that failed
+    pub live_step : MatchBool (is_spare_file file entries) (Leads (Touches file MaybeGone) (view old) (view new)) (new ≡ old) → Leads (KeepsLive entries) (view old) (view new)
+    live_step step = by_test (is_spare_file file entries) refl step
+      where
+        by_test : (b : Bool) → is_spare_file file entries ≡ b → MatchBool b (Leads (Touches file MaybeGone) (view old) (view new)) (new ≡ old) → Leads (KeepsLive entries) (view old) (view new)
+        by_test true spare run = widen run (λ before image left touch. live_beside entries file before image spare touch)
+        by_test false spare same = live_look (subst (λ (d : D). Leads Stays (view old) (view d)) (sym same) (still (view old)))
+
+    -- one that is told to have come through
+    pub live_read : MatchBool (is_spare_file file entries) (Removed file (view old).files (view new).files) (new ≡ old) → KeepsLive entries (view old).files (view new).files
+    live_read told = by_test (is_spare_file file entries) refl told
+      where
+        by_test : (b : Bool) → is_spare_file file entries ≡ b → MatchBool b (Removed file (view old).files (view new).files) (new ≡ old) → KeepsLive entries (view old).files (view new).files
+        by_test true spare removed = live_beside entries file (view old).files (view new).files spare removed
+        by_test false spare same = λ other live. ap (λ (d : D). (view d).files other) same
+
+-- ---- what is gone
 
 file_cases : (a b : FileId) → (a ≡ b) ⊎ (a ≢ b)
 file_cases (Object m) (Object n) = ⊎_elim (λ same. inl (ap Object same)) (λ differs. inr (λ same. differs (cc))) (cases_eq m n)
@@ -128,14 +162,18 @@ seen_more names entries i d here mid new within is fewer gone seen k file below 
     ap new (sym same) ∙ gone (ap (λ (f : FileId). is_spare_file f entries) same ∙ spare))
     (cases_lt k i)
 
--- when all were seen, no object has an id past those of the entries
-pub none_left : (names : List FileId) (entries : List Entry) (next : ℕ) (old new : Files) → Lists names old → All (λ (entry : Entry). entry.id < next) entries → Fewer old new
-    → ((k : ℕ) (file : FileId) → k < length names → get_or names k file ≡ file → is_spare_file file entries ≡ true → new file ≡ None)
-    → NoneFrom next new
-none_left names entries next old new lists below fewer seen id le = by_old (old (Object id)) refl
-  where
-    by_old : (o : Option (List ℕ)) → old (Object id) ≡ o → new (Object id) ≡ None
-    by_old None is = gone_stays (old (Object id)) (new (Object id)) (fewer (Object id)) is
-    by_old (Some bytes) is =
-        let there : Contains names (Object id) = (lists.0 (Object id)).1 (subst (λ (o : Option (List ℕ)). IsSome o) (sym is) refl) in
-        seen there.0 (Object id) there.1 there.2 (past_spare next id entries below le)
+-- when all were seen, each object that is no entry's is gone
+module _ (names : List FileId) (entries : List Entry) (old new : Files) (lists : Lists names old) (fewer : Fewer old new)
+    (seen : (k : ℕ) (file : FileId) → k < length names → get_or names k file ≡ file → is_spare_file file entries ≡ true → new file ≡ None) where
+  pub spare_gone : (id : ℕ) → is_spare id entries ≡ true → new (Object id) ≡ None
+  spare_gone id spare = by_old (old (Object id)) refl
+    where
+      by_old : (o : Option (List ℕ)) → old (Object id) ≡ o → new (Object id) ≡ None
+      by_old None is = gone_stays (old (Object id)) (new (Object id)) (fewer (Object id)) is
+      by_old (Some bytes) is =
+          let there : Contains names (Object id) = (lists.0 (Object id)).1 (subst (λ (o : Option (List ℕ)). IsSome o) (sym is) refl) in
+          seen there.0 (Object id) there.1 there.2 spare
+
+  -- and none has an id past those of the entries
+  pub none_left : (next : ℕ) → All (λ (entry : Entry). entry.id < next) entries → NoneFrom next new
+  none_left next below id le = spare_gone id (past_spare next id entries below le)

@@ -1,5 +1,5 @@
 -- What files stand for, and that it is one history.
-use Rattle.std.proofs.Common.{◌≡◌, ◌≢◌, ℕ, ◌+◌, ◌<◌, ◌≤◌, List, [], ◌∷◌, ◌++◌, suc, drop, length, get_or, refl, sym, ◌∙◌, ap, subst, arith, append_assoc, All}
+use Rattle.std.proofs.Common.{◌≡◌, ◌≢◌, ℕ, ◌+◌, ◌<◌, ◌≤◌, List, [], ◌∷◌, ◌++◌, suc, drop, length, get_or, refl, sym, ◌∙◌, ap, subst, arith, append_assoc, append-nil, All}
 use Rattle.std.specs.Prelude.{nat_eq}
 use Rattle.std.specs.List.{AllZip}
 use Rattle.std.specs.Cmp.Lexicographic.{pointwise}
@@ -22,7 +22,7 @@ use Rattle.push_history.specs.History.{HasBoundedTotals, pushes_of, pushes_total
 use Rattle.history_files.specs.History.{AreHeld, HasIndex, IsBlamed, IsBounded, IsObjectOf, Lists, StandFor}
 use Rattle.history_files.specs.History.IsBlamed.{index as no_index, object as no_object}
 use Rattle.history_files.specs.Standing.{StandAlike}
-use Rattle.history_files.proofs.HeldLemmas.{IsDead, held_beside, held_first, held_once, held_split, length_held}
+use Rattle.history_files.proofs.HeldLemmas.{IsDead, held_append, held_beside, held_first, held_none, held_once, held_one, held_split, length_held}
 
 -- ---- totals
 
@@ -158,6 +158,20 @@ blamed_stands_for_none records files file (no_index none) history stands = none 
 blamed_stands_for_none records files file (no_object index before entry after earlier has parts held bounded wrong) history stands =
     let same : stands.index.entries ≡ before ++ entry ∷ after = lists_once (bodies_of (bytes_of (files (Index 0)))) stands.index index stands.has.lists has.lists ∙ parts in
     none_behind records files index before entry after earlier held wrong history (subst (λ (es : List Entry). AreHeld files es history) same stands.held) stands.totals
+
+-- files without a file to blame stand for a history, as it can't be that they stand for none
+module _ (records : ℕ) (files : Files) (none : (history : List Push) → ¬ (StandFor records files history)) (unblamed : (file : FileId) → ¬ (IsBlamed records files file)) where
+  unblamed_behind : (index : IndexView) (before after : List Entry) (earlier : List Push) → HasIndex records files index → index.entries ≡ before ++ after → AreHeld files before earlier
+      → HasBoundedTotals earlier → ⊥
+  unblamed_behind index before [] earlier has parts held bounded =
+      none earlier (record { index = index; has = has; held = subst (λ (es : List Entry). AreHeld files es earlier) (sym (parts ∙ append-nil before)) held; totals = bounded })
+  unblamed_behind index before (entry ∷ after) earlier has parts held bounded =
+      unblamed (Object entry.id) (no_object index before entry after earlier has parts held bounded
+      (λ pushes object more. unblamed_behind index (before ++ entry ∷ []) after (earlier ++ pushes) has (parts ∙ sym (append_assoc before (entry ∷ []) after))
+      (held_append files before (entry ∷ []) earlier pushes held (held_one files entry pushes object)) more))
+
+  pub one_or_blamed : ⊥
+  one_or_blamed = unblamed (Index 0) (no_index (λ index has. unblamed_behind index [] index.entries [] has refl (held_none files) (λ tenant. omega arith)))
 
 -- two places in a list
 data Places (xs : List Entry) (x : Entry) (ys : List Entry) (y : Entry) : Type 0 where

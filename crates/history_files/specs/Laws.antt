@@ -22,6 +22,10 @@ AsLongAsEntriesSay =
 abbrev pub BlamedStandForNone : Type 0
 BlamedStandForNone = (records : ℕ) (files : Files) (file : FileId) (history : List Push) → IsBlamed records files file → ¬ (StandFor records files history)
 
+-- where they stand for none, it can't be that no file is to blame
+abbrev pub OneOrBlamed : Type 0
+OneOrBlamed = (records : ℕ) (files : Files) → ((history : List Push) → ¬ (StandFor records files history)) → ¬ ((file : FileId) → ¬ (IsBlamed records files file))
+
 -- and no other file is to blame
 abbrev pub OneIsBlamed : Type 0
 OneIsBlamed = (records : ℕ) (files : Files) (one other : FileId) → IsBlamed records files one → IsBlamed records files other → one ≡ other

@@ -2,7 +2,7 @@
 use Rattle.std.specs.Prelude.{◌≡◌, ℕ, ◌+◌, ◌<◌, ◌≤◌, Bool, true, false, not, ◌&&◌, ◌==◌, List, [], ◌∷◌, ◌++◌, length, None, Some, IsSome, ◌↔◌}
 use Rattle.disk_trait.specs.declared.disk.FileId.{FileId}
 use Rattle.disk_trait.specs.declared.disk.FileId.TheVariants.{Index, Object, Root, LimitsFile}
-use Rattle.disk_trait.specs.Disk.{Files, DiskView, IsDurable, Leads, MaybeGone}
+use Rattle.disk_trait.specs.Disk.{Files, DiskView, IsDurable, Leads, MaybeGone, Stays}
 use Rattle.gate_journal.specs.Journal.{JournalView, list_of, IsSettled, IsUnsettled, OthersStay}
 use Rattle.metastore_index.specs.declared.entry.Entry.{Entry}
 use Rattle.metastore_index.specs.Entries.{IndexView}
@@ -85,7 +85,11 @@ Spares entries old new =
     (journal : JournalView) (index : IndexView) (history : List Push) → index.entries ≡ entries → IsAtRest old journal index history
     → IsAtRest new journal index history × Leads (λ before image. StandFor journal.limit image history) old new
 
--- objects that are no entries' may be gone, and all else reads as before
+-- each file is as before that is no object, or is one of these entries
+abbrev pub KeepsLive : List Entry → Files → Files → Type 0
+KeepsLive entries before after = (file : FileId) → is_spare_file file entries ≡ false → after file ≡ before file
+
+-- each file is as before, or gone
 abbrev pub Fewer : Files → Files → Type 0
 Fewer before after = (file : FileId) → MaybeGone (before file) (after file)
 
@@ -104,3 +108,9 @@ pub record IsPrepared (records : ℕ) (old new : DiskView) (journal : JournalVie
   pub settled : IsSettled new journal
   pub others : OthersStay (Index 0) old.files new.files
   pub durable : (id : ℕ) → IsSome (old.files (Object id)) → IsDurable (Object id) new
+
+-- each file that was there was synced, and no more was done
+pub record IsSynced (old new : DiskView) : Type 0 where
+  pub stays : Leads Stays old new
+  pub files : new.files ≡ old.files
+  pub durable : (file : FileId) → IsSome (old.files file) → IsDurable file new

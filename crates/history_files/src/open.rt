@@ -1,5 +1,5 @@
 // What an opening reads before it looks at the objects.
-ghost use Rattle.std.specs.Prelude.{◌≡◌, ◌<◌, ◌≤◌, ◌^◌, OnOk, IfOk, IfSome, IsErrOf, IsNone, IsSome, MatchOption, true};
+ghost use Rattle.std.specs.Prelude.{◌≡◌, ◌≢◌, ◌⊎◌, ◌<◌, ◌≤◌, ◌^◌, List, OnOk, IfOk, IfSome, IsErrOf, IsNone, IsSome, MatchOption, true};
 ghost use Rattle.disk_trait.specs.Disk.{Tells, Rose, GoesOn, Leads, Looks, Stays, IsDurable, IsQuiet};
 ghost use Rattle.disk_trait.specs.declared.disk.FileId.{FileId};
 ghost use Rattle.disk_trait.specs.declared.disk.FileId.TheVariants as names;
@@ -7,8 +7,9 @@ ghost use Rattle.gate_journal.specs.Journal.{IsOpen, list_of};
 ghost use Rattle.metastore_index.specs.declared.entry.Entry as entries;
 ghost use Rattle.metastore_index.specs.Entries.{IndexView};
 ghost use Rattle.metastore_index.specs.Taken.{IsBodyOf};
-ghost use Rattle.history_files.specs.History.{IsBlamed, IsBounded, Lists};
-ghost use Rattle.history_files.specs.Standing.{IsPrepared, StandAlike};
+ghost use Rattle.profile_model.specs.declared.push.Push.{Push};
+ghost use Rattle.history_files.specs.History.{IsBlamed, IsBounded, Lists, StandFor};
+ghost use Rattle.history_files.specs.Standing.{IsPrepared, IsSynced, StandAlike};
 
 use crate::fault::{FilesFault, OpenFault};
 use disk_trait::{Disk, DiskError, FileId};
@@ -103,6 +104,14 @@ pub fn open_index<D: Disk>(
     // At each moment each image stands for what the files stood for, where nothing waited for a sync.
     ensures any_moment { Tells (D.view disk.old) → IsQuiet (D.view disk.old)
         → Leads (λ before image. StandAlike records (D.view disk.old).files image) (D.view disk.old) (D.view disk.new) }
+
+    // Where calls still waited for one, each file is synced first, and from there on each image stands for the history.
+    ensures synced { (history : List Push) → Tells (D.view disk.old) → StandFor records (D.view disk.old).files history
+        → IsSome ((D.view disk.old).files (names.Index 0)) ⊎ IsDurable (names.Index 0) (D.view disk.old)
+        → IfOk result (λ pair. (mid : D) × IsSynced (D.view disk.old) (D.view mid) × Leads (λ before image. StandFor records image history) (D.view mid) (D.view disk.new)) }
+
+    // It touches no file but the index file.
+    ensures touches { Leads (λ before image. (file : FileId) → file ≢ names.Index 0 → image file ≡ before file) (D.view disk.old) (D.view disk.new) }
     ensures failed { IsErrOf result OpenFault.Disk → Rose (D.view disk.old).faults (D.view disk.new).faults }
     ensures memory { IsErrOf result OpenFault.Memory → (D.view disk.new).faults ≡ (D.view disk.old).faults }
     ensures damaged_quiet { IsErrOf result OpenFault.Damaged → (D.view disk.new).faults ≡ (D.view disk.old).faults }

@@ -1,8 +1,9 @@
 // Objects that are no entry's.
-ghost use Rattle.std.specs.Prelude.{◌≡◌, ◌<◌, ◌≤◌, ℕ, OnOk, OnErr, IsErrOf, MatchBool};
+ghost use Rattle.std.specs.Prelude.{◌≡◌, ◌<◌, ◌≤◌, ℕ, true, None, OnOk, OnErr, IsErrOf, MatchBool};
 ghost use Rattle.std.specs.List.{All};
 ghost use Rattle.disk_trait.specs.Disk.{Tells, Rose, GoesOn, Leads, Touches, MaybeGone, Removed};
-ghost use Rattle.history_files.specs.Standing.{Spares, NoneFrom, Fewer, is_spare, is_spare_file};
+ghost use Rattle.disk_trait.specs.declared.disk.FileId.TheVariants.{Object};
+ghost use Rattle.history_files.specs.Standing.{Spares, NoneFrom, Fewer, KeepsLive, is_spare, is_spare_file};
 
 use crate::fault::FilesFault;
 use disk_trait::{Disk, DiskError, Failed, FileId};
@@ -45,7 +46,13 @@ pub fn remove_spares<D: Disk>(
     entries: &[Entry],
 ) -> Result<(), FilesFault>
     ensures spares { Tells (D.view disk.old) → Spares entries.now (D.view disk.old) (D.view disk.new) }
+    // Each object that is no entry's is gone.
+    ensures gone { Tells (D.view disk.old) → OnOk result ((id : ℕ) → is_spare id entries.now ≡ true → (D.view disk.new).files (Object id) ≡ None) }
     ensures fewer { Tells (D.view disk.old) → OnOk result (Fewer (D.view disk.old).files (D.view disk.new).files) }
+
+    // The entries' objects, and each file that is no object, stay at each moment, also where a call fails.
+    ensures others { Leads (KeepsLive entries.now) (D.view disk.old) (D.view disk.new) }
+    ensures others_read { Tells (D.view disk.old) → OnOk result (KeepsLive entries.now (D.view disk.old).files (D.view disk.new).files) }
     ensures none { (next : ℕ) → Tells (D.view disk.old) → All (λ entry. entry.id < next) entries.now → OnOk result (NoneFrom next (D.view disk.new).files) }
     ensures failed { IsErrOf result FilesFault.Disk → Rose (D.view disk.old).faults (D.view disk.new).faults }
     ensures memory { IsErrOf result FilesFault.Memory → (D.view disk.new).faults ≡ (D.view disk.old).faults }

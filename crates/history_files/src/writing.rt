@@ -1,5 +1,5 @@
 // The one way in which a store writes: an object, and then its entry.
-ghost use Rattle.std.specs.Prelude.{◌≡◌, ◌≢◌, ◌<◌, ◌++◌, List, true, false, OnOk, OnErr, IsErrOf, None};
+ghost use Rattle.std.specs.Prelude.{◌≡◌, ◌≢◌, ◌+◌, ◌<◌, ◌++◌, List, true, false, OnOk, OnErr, IsErrOf, None};
 ghost use Rattle.disk_trait.specs.Disk.{Tells, Rose, GoesOn, Leads};
 ghost use Rattle.disk_trait.specs.declared.disk.FileId.{FileId};
 ghost use Rattle.disk_trait.specs.declared.disk.FileId.TheVariants.{Object};
@@ -69,8 +69,17 @@ pub fn commit<D: Disk>(
         → IsErrOf result CommitFault.Append → IsInFlight (D.view disk.new) journal.new index entry.now history added }
     ensures append_unsure { IsErrOf result CommitFault.Append → journal.new.sure ≡ false }
 
+    ensures count { OnOk result (journal.new.count ≡ journal.old.count + 1) }
+    ensures same_count { OnErr result (journal.new.count ≡ journal.old.count) }
     ensures file { journal.new.file ≡ journal.old.file }
     ensures limit { journal.new.limit ≡ journal.old.limit }
+
+    // No other file changes at any moment.
+    ensures others_at_each_moment { Tells (D.view disk.old)
+        → Leads (λ before image. (file : FileId) → file ≢ Object entry.now.id → file ≢ journal.old.file → image file ≡ before file) (D.view disk.old) (D.view disk.new) }
+    // Where the object fails, nothing but its own file does, also on a disk that doesn't tell.
+    ensures others_at_object { IsErrOf result CommitFault.Object
+        → Leads (λ before image. (file : FileId) → file ≢ Object entry.now.id → image file ≡ before file) (D.view disk.old) (D.view disk.new) }
 
     // At each moment each image stands for the history, or for that with what the entry adds.
     ensures any_moment { (index later : IndexView) (history added : List Push) → Tells (D.view disk.old)

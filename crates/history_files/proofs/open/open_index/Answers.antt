@@ -1,6 +1,7 @@
 use Rattle.std.proofs.Common.{ap, ◌∙◌, Err}
 use Rattle.disk_trait.specs.Disk.{Tells}
-use Rattle.history_files.proofs.OpenLemmas.{at_none, at_some, index_synced, looked_alike, none_listed, opened_alike, prepares, too_many}
+use Rattle.history_files.specs.Standing.{IsSynced}
+use Rattle.history_files.proofs.OpenLemmas.{at_none, at_some, index_synced, index_waited, looked_alike, looked_beside, none_listed, opened_alike, opened_beside, opened_stand, prepares, still_beside, too_many}
 use Rattle.history_files.proofs.open.open_index.Goals as goal
 
 pub returns-in-Err-Damaged-clause-damaged : goal.returns-in-Err-Damaged-clause-damaged
@@ -76,3 +77,39 @@ returns-in-Ok-Some-clause-prepared g c t =
     let settled = c.in-Ok-open.ensures.settled t-mid in
     prepares c.args.records old mid new c.in-Ok-open.journal (c.in-Ok.ensures.told t) (c.in-Ok.ensures.durable t) ok.0 ok.1 settled.0 settled.1 (c.in-Ok-open.ensures.within t-mid) t-new c.open.ensures.touches (c.in-Ok-open.ensures.others t-mid)
     _ c.in-Ok-Some.index c.read_index.ensures.looks (at_some c.in-Ok-Some.field-0 c.in-Ok-Some.index _ _ c.in-Ok-Some.field-0-is (c.in-Ok-Some.ensures.told t-new))
+
+pub returns-in-Ok-Some-clause-synced : goal.returns-in-Ok-Some-clause-synced
+returns-in-Ok-Some-clause-synced g c history t stands listed =
+    let old = g.D.Disk.view c.args.disk.now in
+    let mid = g.D.Disk.view c.sync_all.new.disk in
+    let t-mid : Tells mid = c.sync_all.ensures.goes_on.honest ∙ t in
+    let synced : IsSynced old mid = record { stays = c.sync_all.ensures.leads; files = c.in-Ok.ensures.told t; durable = c.in-Ok.ensures.durable t } in (
+      c.sync_all.new.disk,
+      synced,
+      opened_stand c.args.records old mid synced history stands listed (g.D.Disk.view c.open.new.disk) (g.D.Disk.view c.read_index.new.disk)
+          (c.open.ensures.any_moment t-mid (index_waited c.args.records old mid synced history stands listed)) c.read_index.ensures.looks.stays,
+    )
+
+pub returns-in-Err-Memory-clause-touches : goal.returns-in-Err-Memory-clause-touches
+returns-in-Err-Memory-clause-touches g c = still_beside _ c.sync_all.ensures.leads
+
+pub returns-in-Err-Disk-clause-touches : goal.returns-in-Err-Disk-clause-touches
+returns-in-Err-Disk-clause-touches g c = still_beside _ c.sync_all.ensures.leads
+
+pub returns-in-Err-Damaged-clause-touches : goal.returns-in-Err-Damaged-clause-touches
+returns-in-Err-Damaged-clause-touches g c = opened_beside _ c.sync_all.ensures.leads c.open.ensures.touches
+
+pub returns-in-Err-Disk-open-clause-touches : goal.returns-in-Err-Disk-open-clause-touches
+returns-in-Err-Disk-open-clause-touches g c = opened_beside _ c.sync_all.ensures.leads c.open.ensures.touches
+
+pub returns-in-Ok-Some-clause-touches : goal.returns-in-Ok-Some-clause-touches
+returns-in-Ok-Some-clause-touches g c = looked_beside _ c.sync_all.ensures.leads c.open.ensures.touches c.read_index.ensures.looks.stays
+
+pub returns-in-Ok-None-clause-touches : goal.returns-in-Ok-None-clause-touches
+returns-in-Ok-None-clause-touches g c = looked_beside _ c.sync_all.ensures.leads c.open.ensures.touches c.read_index.ensures.looks.stays
+
+pub returns-in-Err-Memory-read_index-clause-touches : goal.returns-in-Err-Memory-read_index-clause-touches
+returns-in-Err-Memory-read_index-clause-touches g c = looked_beside _ c.sync_all.ensures.leads c.open.ensures.touches c.read_index.ensures.looks.stays
+
+pub returns-in-Err-Disk-read_index-clause-touches : goal.returns-in-Err-Disk-read_index-clause-touches
+returns-in-Err-Disk-read_index-clause-touches g c = looked_beside _ c.sync_all.ensures.leads c.open.ensures.touches c.read_index.ensures.looks.stays

@@ -1,7 +1,8 @@
 use Rattle.std.proofs.Common.{ap, ◌∙◌, Err}
 use Rattle.disk_trait.specs.Disk.{Tells}
+use Rattle.disk_trait.proofs.Steps.{widen}
 use Rattle.gate_journal.specs.Journal.{JournalView}
-use Rattle.history_files.proofs.RestLemmas.{staged_leads, staged_rests, committed_leads, flies, commits}
+use Rattle.history_files.proofs.RestLemmas.{besides_both, staged_leads, staged_rests, committed_leads, flies, commits}
 use Rattle.history_files.proofs.writing.commit.Goals as goal
 
 pub returns-in_err-write_through-clause-object : goal.returns-in_err-write_through-clause-object
@@ -47,3 +48,19 @@ returns-in-Err-Disk-clause-append g c index later history added t it _ =
     flies _ _ index later _ _ history added it mid c.write_through.ensures.leads t-mid (c.requires.fresh t) (c.in_ok-write_through.ensures.told t) (c.in_ok-write_through.ensures.durable t)
     _ c.record_of-body.ensures _ c.requires.room (c.append.ensures.any_moment t-mid)
     _ (ap (λ (j : JournalView). j.file) is) (ap (λ (j : JournalView). j.limit) is) (ap (λ (j : JournalView). j.count) is) done.0 done.1
+
+pub returns-in_err-write_through-clause-others_at_each_moment : goal.returns-in_err-write_through-clause-others_at_each_moment
+returns-in_err-write_through-clause-others_at_each_moment g c t =
+    widen c.write_through.ensures.leads (λ before image left touch file differs differs_too. touch.others file differs)
+
+pub returns-in_err-write_through-clause-others_at_object : goal.returns-in_err-write_through-clause-others_at_object
+returns-in_err-write_through-clause-others_at_object g c is =
+    widen c.write_through.ensures.leads (λ before image left touch file differs. touch.others file differs)
+
+pub returns-in-Ok-clause-others_at_each_moment : goal.returns-in-Ok-clause-others_at_each_moment
+returns-in-Ok-clause-others_at_each_moment g c t =
+    besides_both _ _ c.write_through.ensures.leads (c.append.ensures.any_moment (c.write_through.ensures.goes_on.honest ∙ t))
+
+pub returns-in-Err-Disk-clause-others_at_each_moment : goal.returns-in-Err-Disk-clause-others_at_each_moment
+returns-in-Err-Disk-clause-others_at_each_moment g c t =
+    besides_both _ _ c.write_through.ensures.leads (c.append.ensures.any_moment (c.write_through.ensures.goes_on.honest ∙ t))

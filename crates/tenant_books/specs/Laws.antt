@@ -10,3 +10,9 @@ abbrev pub OneJudgement : Type 0
 OneJudgement =
     (limit : List ℕ → ℕ) (history : List Push) (asks : List PushAsk) (verdicts others : List Verdict) (last other : List Push)
     → AreVerdicts limit history asks verdicts last → AreVerdicts limit history asks others other → (verdicts ≡ others) × (last ≡ other)
+
+-- all pushes that ask, over every history, have verdicts
+abbrev pub EachIsJudged : Type 0
+EachIsJudged =
+    (limit : List ℕ → ℕ) (history : List Push) (asks : List PushAsk)
+    → (verdicts : List Verdict) × (last : List Push) × AreVerdicts limit history asks verdicts last

@@ -32,6 +32,12 @@ with_kept history push (Kept receipt) = history ++ push ∷ []
 with_kept history push (FrontAhead asked front) = history
 with_kept history push (OverLimit kept adds told front) = history
 
+-- the pushes whose verdict is that they are kept, in order
+abbrev pub kept_of : List PushAsk → List Verdict → List Push
+kept_of [] verdicts = []
+kept_of (ask ∷ asks) [] = []
+kept_of (ask ∷ asks) (verdict ∷ verdicts) = with_kept [] ask.push verdict ++ kept_of asks verdicts
+
 -- each ask has its verdict, judged in order after those kept before it; the last history has all that were kept
 abbrev pub AreVerdicts : (List ℕ → ℕ) → List Push → List PushAsk → List Verdict → List Push → Type 0
 AreVerdicts limit history [] [] last = last ≡ history

@@ -1,15 +1,15 @@
 // What becomes of pushes that ask to be kept: they are judged in order, each after those that were kept before it.
-ghost use Rattle.std.specs.Prelude.{◌≡◌, ◌+◌, ◌^◌, ◌<◌, ◌≤◌, ◌++◌, List, ℕ, IfOk, IsTrue, OnOk, length};
+ghost use Rattle.std.specs.Prelude.{◌≡◌, ◌+◌, ◌^◌, ◌<◌, ◌≤◌, ◌++◌, ◌&&◌, [], List, ℕ, IfOk, IsTrue, OnOk, false, length, nat_le};
 ghost use Rattle.std.specs.List.{list_any};
 ghost use Rattle.profile_model.specs.declared.push.Push.{Push};
 ghost use Rattle.profile_model.specs.Limits.{total_bound};
 ghost use Rattle.profile_model.specs.Pushes.{profiles_total};
 ghost use Rattle.push_history.specs.History.{HasBoundedTotals, front_of, tenant_total};
 ghost use Rattle.tenant_books.specs.declared.verdict.Verdict.{Verdict};
-ghost use Rattle.tenant_books.specs.Books.{AreBooksOf};
+ghost use Rattle.tenant_books.specs.Books.{AreBooksOf, standing_in};
 ghost use Rattle.tenant_books.specs.Keeping.{is_kept, is_kept_alone, is_some_kept};
 ghost use Rattle.tenant_books.specs.Limits.{limit_of};
-ghost use Rattle.tenant_books.specs.Verdicts.{AreVerdicts, IsVerdict, with_kept};
+ghost use Rattle.tenant_books.specs.Verdicts.{AreVerdicts, IsVerdict, kept_of, with_kept};
 
 use crate::{Books, Limits, PushAsk, Receipt, Verdict};
 use profile_model::{Push, Tenant};
@@ -41,6 +41,9 @@ pub fn judge(
         → length history ≡ end → end + length asks.items < 2 ^ 63
         → HasBoundedTotals (history ++ judged.kept.items)) }
     ensures few { IfOk result (λ judged. length judged.kept.items ≤ length asks.items) }
+    ensures kept { IfOk result (λ judged. judged.kept.items ≡ kept_of asks.items judged.verdicts.items) }
+    ensures many { IfOk result (λ judged. length judged.verdicts.items ≡ length asks.items) }
+    ensures none { list_any (is_kept_alone books.now limits.now) asks.items ≡ false → IfOk result (λ judged. judged.kept.items ≡ []) }
 {
     let mut verdicts = Vec::new(alloc);
     let mut kept = Vec::new(alloc);
@@ -63,8 +66,9 @@ fn keep(kept: &mut Vec<Push>, ask: PushAsk, verdict: &Verdict) -> Result<(), All
 
 /// Whether judging keeps any of the pushes. It takes no memory.
 pub fn would_keep(books: &Books, limits: &Limits, asks: &[PushAsk]) -> bool
-    ensures { (history : List Push) → (verdicts : List Verdict) → (last : List Push) → AreBooksOf books.now history
+    ensures told { (history : List Push) → (verdicts : List Verdict) → (last : List Push) → AreBooksOf books.now history
         → AreVerdicts (limit_of limits.now) history asks.now verdicts last → result ≡ is_some_kept verdicts }
+    ensures alone { result ≡ list_any (is_kept_alone books.now limits.now) asks.now }
 {
     // The first that is kept has none before it that is, so the books alone tell.
     is_any_kept_alone(books, limits, asks)
@@ -93,6 +97,7 @@ fn verdict_after(books: &Books, limits: &Limits, end: u64, kept: &[Push], ask: &
         → IsVerdict (limit_of limits.now) (history ++ kept.now) ask.now result }
     ensures within { IsTrue (is_kept result) → tenant_total kept.now ask.now.push.tenant + profiles_total ask.now.push.profiles < total_bound }
     ensures limit { limit_of limits.now ask.now.push.tenant < total_bound }
+    ensures alone { kept.now ≡ [] → is_kept result ≡ is_kept_alone books.now limits.now ask.now }
 {
     let tenant = &ask.push.tenant;
     let standing = standing_after(books, kept, tenant);
@@ -109,6 +114,7 @@ fn standing_after(books: &Books, kept: &[Push], tenant: &Tenant) -> Standing
     ensures total { (history : List Push) → AreBooksOf books.now history → HasBoundedTotals history
         → result.total ≡ tenant_total (history ++ kept.now) tenant.now }
     ensures least { tenant_total kept.now tenant.now ≤ result.total }
+    ensures alone { kept.now ≡ [] → result ≡ standing_in books.now tenant.now }
 {
     let before = books.standing(tenant);
     let since = standing(kept, tenant);
@@ -124,6 +130,7 @@ fn verdict_of(standing: Standing, limit: u64, place: u64, ask: &PushAsk) -> Verd
         → standing.front < 2 ^ 63 → standing.total ≡ tenant_total history ask.now.push.tenant → place ≡ length history
         → limit ≡ limits ask.now.push.tenant → IsVerdict limits history ask.now result }
     ensures within { IsTrue (is_kept result) → standing.total + profiles_total ask.now.push.profiles ≤ limit }
+    ensures alone { is_kept result ≡ (nat_le ask.now.asked standing.front && nat_le (standing.total + profiles_total ask.now.push.profiles) limit) }
 {
     let Standing { front, total } = standing;
     if front < ask.asked {

@@ -13,6 +13,6 @@ mod verdict;
 pub use asks::PushAsk;
 pub use books::{Books, TotalPassed};
 pub use judging::{Judged, judge, would_keep};
-pub use laws::one_judgement;
+pub use laws::{each_is_judged, one_judgement};
 pub use limits::Limits;
 pub use verdict::{Receipt, Verdict};

@@ -177,14 +177,26 @@ fn judged(alloc: Global, rows: &[(&str, u64, u64)]) -> Result<Judged, Fail> {
     Ok(judge(alloc, &books, &limits, 3, asks)?)
 }
 
+fn is_push(push: &Push, tenant: &str, total: u64) -> bool {
+    push.tenant.as_bytes() == tenant.as_bytes() && push.total() == u128::from(total)
+}
+
+fn are_pushes(pushes: &[Push], rows: &[(&str, u64)]) -> bool {
+    pushes.len() == rows.len()
+        && pushes
+            .iter()
+            .zip(rows)
+            .all(|(push, (tenant, total))| is_push(push, tenant, *total))
+}
+
 fn have_verdicts(
     alloc: Global,
     rows: &[(&str, u64, u64)],
     expected: &[Verdict],
-    kept: usize,
+    kept: &[(&str, u64)],
 ) -> Result<bool, Fail> {
     let judged = judged(alloc, rows)?;
-    Ok(judged.verdicts.as_slice() == expected && judged.kept.len() == kept)
+    Ok(judged.verdicts.as_slice() == expected && are_pushes(&judged.kept, kept))
 }
 
 fn over(kept: u128, push: u128, limit: u64, front: u64) -> Verdict {
@@ -213,7 +225,7 @@ fn each_push_is_judged_after_those_kept_before_it(rt: HostRuntime) -> Result<(),
             alloc,
             &first,
             &[kept(3, 3), over(100, 1, 100, 3), ahead(4, 3)],
-            1
+            &[("a", 10)]
         )?
     );
     let second = [("small", 5, 0), ("b", 93, 1), ("small", 6, 1)];
@@ -222,7 +234,7 @@ fn each_push_is_judged_after_those_kept_before_it(rt: HostRuntime) -> Result<(),
             alloc,
             &second,
             &[kept(3, 1), kept(4, 2), over(5, 6, 10, 1)],
-            2
+            &[("small", 5), ("b", 93)]
         )?
     );
     Ok(())

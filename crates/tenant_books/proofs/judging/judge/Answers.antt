@@ -4,9 +4,10 @@ use Rattle.profile_model.specs.declared.push.Push.{Push}
 use Rattle.profile_model.specs.Limits.{total_bound}
 use Rattle.profile_model.specs.Pushes.{profiles_total}
 use Rattle.push_history.specs.History.{HasBoundedTotals, tenant_total}
-use Rattle.tenant_books.specs.Keeping.{is_kept}
+use Rattle.tenant_books.specs.Keeping.{is_kept, is_kept_alone}
 use Rattle.tenant_books.specs.Limits.{limit_of}
-use Rattle.tenant_books.specs.Verdicts.{AreVerdicts, IsVerdict}
+use Rattle.tenant_books.specs.Verdicts.{AreVerdicts, IsVerdict, kept_of, with_kept}
+use Rattle.tenant_books.proofs.KeptLemmas.{kept_more, kept_still, none_more}
 use Rattle.tenant_books.proofs.VerdictLemmas.{kept-behind, kept-bounded, kept-few, verdict-bounded, verdicts-more}
 use Rattle.tenant_books.proofs.judging.judge.Goals as goal
 
@@ -27,6 +28,20 @@ loop-ask-preserved c =
           (kept-bounded kept ask.push verdict c.loop-ask.invariant.within
           (subst (λ (pushes : List Push). is_kept verdict ≡ true → tenant_total pushes ask.push.tenant + profiles_total ask.push.profiles < total_bound) c.deref.ensures.value c.verdict_after-verdict.ensures.within));
       few = omega arith;
+      long =
+          let told = ap length c.in_ok-push.ensures.items ∙ length_push c.loop-ask.verdicts.items verdict in
+          let same = c.loop-ask.invariant.long in omega arith;
+      kept =
+          c.in_ok-keep.ensures
+          ∙ ap (λ before. with_kept before ask.push verdict) c.loop-ask.invariant.kept
+          ∙ sym (kept_more c.loop-ask.yielded c.loop-ask.verdicts.items ask verdict c.loop-ask.invariant.long)
+          ∙ ap (λ told. kept_of (c.loop-ask.yielded ++ ask ∷ []) told) (sym c.in_ok-push.ensures.items);
+      none = λ some.
+          let parts = none_more (is_kept_alone c.args.books.now c.args.limits.now) c.loop-ask.yielded ask some in
+          let before = c.loop-ask.invariant.none parts.0 in
+          c.in_ok-keep.ensures
+          ∙ kept_still kept ask.push verdict (c.verdict_after-verdict.ensures.alone (c.deref.ensures.value ∙ before) ∙ parts.1)
+          ∙ before;
       verdicts = λ history are bounded end short.
           let is = subst (λ (pushes : List Push). IsVerdict limit (history ++ pushes) ask verdict) c.deref.ensures.value (c.verdict_after-verdict.ensures.verdict history are bounded end (omega arith)) in
           subst (λ told. AreVerdicts limit history (c.loop-ask.yielded ++ ask ∷ []) told (history ++ c.keep.new.kept.items)) (sym c.in_ok-push.ensures.items)

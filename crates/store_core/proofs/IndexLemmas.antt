@@ -1,0 +1,54 @@
+-- What comes to a store's index.
+use Rattle.std.proofs.Common.{◌≡◌, ◌⊎◌, inl, inr, ⊎_elim, ℕ, ◌+◌, List, Some, Option, refl, sym, ◌∙◌, ap, subst, arith}
+use Rattle.metastore_index.specs.declared.entry.Entry.{Entry}
+use Rattle.metastore_index.specs.Entries.{Becomes, IndexView, IsTaken}
+use Rattle.store_core.specs.Store.{FlightView, StoreView}
+use Rattle.store_core.specs.Changes.{HasOneMore, HasSameIndex, TakesFlight}
+use Rattle.store_core.proofs.RoomLemmas.{roomy}
+
+pub same_index : {D : Type 0} (before after : StoreView D) → after.index ≡ before.index → after.count ≡ before.count → HasSameIndex before after
+same_index before after index count = record { entries = ap (λ (i : IndexView). i.entries) index; greatest = ap (λ (i : IndexView). i.greatest) index; count = count }
+
+-- by way of an index where room was made
+module _ {D : Type 0} (before after : StoreView D) (made : IndexView) (same : made ≡ roomy before.index made.spare) where
+  pub one_more_put : (entry : Entry) → Becomes made.entries entry after.index.entries × (after.index.greatest ≡ entry.id) × (after.count ≡ before.count + 1) → HasOneMore before after entry
+  one_more_put entry taken = record {
+    becomes = subst (λ (es : List Entry). Becomes es entry after.index.entries) (ap (λ (i : IndexView). i.entries) same) taken.0;
+    greatest = taken.1;
+    count = taken.2;
+  }
+
+  pub same_put : after.index ≡ made → after.count ≡ before.count → HasSameIndex before after
+  same_put index count = record {
+    entries = ap (λ (i : IndexView). i.entries) (index ∙ same);
+    greatest = ap (λ (i : IndexView). i.greatest) (index ∙ same);
+    count = count;
+  }
+
+pub takes_same : {D : Type 0} (before between after : StoreView D) → TakesFlight before between → HasSameIndex between after → TakesFlight before after
+takes_same before between after takes same = ⊎_elim
+    (λ was. inl (record { entries = same.entries ∙ was.entries; greatest = same.greatest ∙ was.greatest; count = same.count ∙ was.count }))
+    (λ more. inr (
+      more.0,
+      more.1,
+      record {
+        becomes = subst (λ (es : List Entry). Becomes before.index.entries more.0.entry es) (sym same.entries) more.2.becomes;
+        greatest = same.greatest ∙ more.2.greatest;
+        count = same.count ∙ more.2.count;
+      },
+    ))
+    takes
+
+-- what was found out of the flight's entry
+pub takes_of : {D : Type 0} (before after : StoreView D) (flight : FlightView) → before.flight ≡ Some flight
+    → (((after.index.entries ≡ before.index.entries) × (after.index.greatest ≡ before.index.greatest) × (after.count ≡ before.count))
+    ⊎ (Becomes before.index.entries flight.entry after.index.entries × (after.index.greatest ≡ flight.entry.id) × (after.count ≡ before.count + 1)))
+    → TakesFlight before after
+takes_of before after flight there took = ⊎_elim
+    (λ same. inl (record { entries = same.0; greatest = same.1; count = same.2 }))
+    (λ more. inr (flight, there, record { becomes = more.0; greatest = more.1; count = more.2 }))
+    took
+
+-- an entry that is taken is so with more room
+pub taken_room : (index made : IndexView) → made ≡ roomy index made.spare → (entry : Entry) → IsTaken index entry → IsTaken made entry
+taken_room index made same entry taken = subst (λ (i : IndexView). IsTaken i entry) (sym same) (record { later = taken.later; bounded = taken.bounded; fits = taken.fits })

@@ -1,0 +1,10 @@
+pub mod KeptLemmas
+pub mod RoomLemmas
+pub mod PartLemmas
+pub mod StoreLemmas
+pub mod AddLemmas
+pub mod IndexLemmas
+pub mod OtherLemmas
+pub mod OpenLemmas
+pub mod ReadLemmas
+pub mod SettleLemmas

@@ -1,0 +1,15 @@
+use Rattle.std.proofs.Common.{◌≡◌, ◌≤◌, ◌<◌, ◌+◌, ◌++◌, ap, sym, ◌∙◌, subst, refl, Some, None, List, ℕ, true, false, length, arith}
+use Rattle.std.proofs.lemmas.Bool.{false≢true}
+use Rattle.std.specs.Option.{option_map}
+use Rattle.disk_trait.specs.Disk.{Tells, Files}
+use Rattle.profile_model.specs.declared.push.Push.{Push}
+use Rattle.store_core.specs.Store.{FlightView, HasHistory, Invariant, StoreView, in_flight}
+use Rattle.store_core.specs.Changes.{IsMended}
+use Rattle.history_files.specs.Keeps.{StandForEither}
+use Rattle.store_core.proofs.KeptLemmas.{images_as}
+use Rattle.store_core.proofs.store.Store.stands.Goals as goal
+
+pub returns-clause-images : goal.returns-clause-images
+returns-clause-images g c =
+    subst (λ s. (history : List Push) → Tells (g.D.Disk.view s.disk) → HasHistory (g.D.Disk.view s.disk) s history → (image : Files) → (g.D.Disk.view s.disk).images_now image → StandForEither s.records history (history ++ in_flight s.flight) image) c.self.view_is
+    (λ history t held image left. images_as (g.D.Disk.view c.self.inside.disk) c.self.inside.journal c.self.inside.index _ c.self.inside.books c.self.inside.sure c.self.inside.records c.self.invariant history t held image left)

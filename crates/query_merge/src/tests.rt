@@ -41,12 +41,15 @@ const LATE: [Sample; 3] = [
     ("test", CPU, 31_000, "a", 0),
 ];
 
-fn sums(alloc: Global, frame: &str, value: u64) -> Result<StackSums, Fail> {
+fn stack(alloc: Global, frame: &str) -> Result<Stack, Fail> {
     let mut names = Vec::new(alloc);
     names.push(Name::from_text(alloc, frame)?)?;
-    let stack = Stack::from_frames(ArcSlice::from_vec(names)?)?;
+    Ok(Stack::from_frames(ArcSlice::from_vec(names)?)?)
+}
+
+fn sums(alloc: Global, frame: &str, value: u64) -> Result<StackSums, Fail> {
     let mut sums = StackSums::new(alloc);
-    sums.add(stack, value)?;
+    sums.add(stack(alloc, frame)?, value)?;
     Ok(sums)
 }
 
@@ -133,53 +136,58 @@ fn a_span_is_from_the_oldest_to_the_newest(rt: HostRuntime) -> Result<(), Fail> 
 
 // ---- types
 
-fn types_of(alloc: Global, first: &[Sample], second: &[Sample]) -> Result<Vec<ProfileType>, Fail> {
+fn types_of(alloc: Global, parts: &[&[Sample]]) -> Result<Vec<ProfileType>, Fail> {
     let mut types = Types::new(alloc);
-    types.add(&part(alloc, first)?)?;
-    types.add(&part(alloc, second)?)?;
+    for samples in parts {
+        types.add(&part(alloc, samples)?)?;
+    }
     Ok(types.list()?)
 }
 
-fn types_text(alloc: Global, first: &[Sample], second: &[Sample]) -> Result<String, Fail> {
+fn types_text(alloc: Global, parts: &[&[Sample]]) -> Result<String, Fail> {
     let mut text = String::new(alloc);
-    for kind in &types_of(alloc, first, second)? {
+    for kind in &types_of(alloc, parts)? {
         text = format!(in alloc; "{text}{kind};")?;
     }
     Ok(text)
 }
 
-fn lists_types(
-    alloc: Global,
-    first: &[Sample],
-    second: &[Sample],
-    expected: &str,
-) -> Result<bool, Fail> {
-    let text = types_text(alloc, first, second)?;
+fn lists_types(alloc: Global, parts: &[&[Sample]], expected: &str) -> Result<bool, Fail> {
+    let text = types_text(alloc, parts)?;
     Ok(text.as_str() == expected)
 }
 
 #[test]
 fn types_are_listed_once_ascending(rt: HostRuntime) -> Result<(), Fail> {
     let alloc = rt.alloc();
+    let cpu = "process_cpu:samples:count:cpu:nanoseconds;";
     let both = "memory:space:bytes:space:bytes;process_cpu:samples:count:cpu:nanoseconds;";
-    assert!(rt; lists_types(alloc, &EARLY, &LATE, both)?);
-    assert!(rt; lists_types(alloc, &LATE, &EARLY, both)?);
-    assert!(rt; lists_types(alloc, &[], &[], "")?);
+    assert!(rt; lists_types(alloc, &[&EARLY, &LATE], both)?);
+    assert!(rt; lists_types(alloc, &[&LATE, &EARLY, &LATE], both)?);
+    assert!(rt; lists_types(alloc, &[&LATE, &[], &LATE], cpu)?);
+    assert!(rt; lists_types(alloc, &[&[], &[]], "")?);
     Ok(())
 }
 
 // ---- sums of stacks
+
+fn add_part(merge: &mut Merge, part: &Part) -> Result<(), Fail>
+    requires { total_of merge.old.sums ≤ 2 ^ 30 }
+    ensures total { OnOk result (total_of merge.new.sums ≤ total_of merge.old.sums + 2 ^ 20) }
+    ensures query { merge.new.query ≡ merge.old.query }
+{
+    if are_light(&part.rows) {
+        merge.add(part)?;
+    }
+    Ok(())
+}
 
 fn add_to_merge(alloc: Global, merge: &mut Merge, samples: &[Sample]) -> Result<(), Fail>
     requires { total_of merge.old.sums ≤ 2 ^ 30 }
     ensures total { OnOk result (total_of merge.new.sums ≤ total_of merge.old.sums + 2 ^ 20) }
     ensures query { merge.new.query ≡ merge.old.query }
 {
-    let part = part(alloc, samples)?;
-    if are_light(&part.rows) {
-        merge.add(&part)?;
-    }
-    Ok(())
+    add_part(merge, &part(alloc, samples)?)
 }
 
 fn merge_of(alloc: Global, query: &str) -> Result<Merge, Fail>
@@ -229,6 +237,49 @@ fn stacks_of_the_querys_type_that_match_are_summed(rt: HostRuntime) -> Result<()
     let production = "process_cpu:samples:count:cpu:nanoseconds{env=\"prod\"}";
     assert!(rt; adds_up(alloc, production, &EARLY, &LATE, "a 9;b 4;")?);
     assert!(rt; adds_up(alloc, "a:b:c:d:e", &EARLY, &LATE, "")?);
+    Ok(())
+}
+
+// ---- stacks that share their frames
+
+// A type and a value.
+type Value = (&'static str, u64);
+
+// Rows that have this one stack, so its frames stand in memory once.
+fn part_of_stack(alloc: Global, stack: &Stack, values: &[Value]) -> Result<Part, Fail> {
+    let mut part = part(alloc, &[])?;
+    for (kind, value) in values {
+        let mut profile = profile(alloc, &("prod", *kind, 0, "none", 0))?;
+        profile.values.add(stack.clone()?, *value)?;
+        part.rows.push(Row {
+            push: 0,
+            place: 0,
+            profile,
+        })?;
+    }
+    Ok(part)
+}
+
+fn shared_adds_up(
+    alloc: Global,
+    first: &[Value],
+    second: &[Value],
+    expected: &str,
+) -> Result<bool, Fail> {
+    let stack = stack(alloc, "a")?;
+    let mut merge = merge_of(alloc, CPU)?;
+    add_part(&mut merge, &part_of_stack(alloc, &stack, first)?)?;
+    add_part(&mut merge, &part_of_stack(alloc, &stack, second)?)?;
+    Ok(sums_text(alloc, &merge.stacks())?.as_str() == expected)
+}
+
+#[test]
+fn each_value_of_a_shared_stack_counts_once(rt: HostRuntime) -> Result<(), Fail> {
+    let alloc = rt.alloc();
+    let many = [(CPU, 1), (HEAP, 64), (CPU, 2), (CPU, 4)];
+    assert!(rt; shared_adds_up(alloc, &many, &[], "a 7;")?);
+    assert!(rt; shared_adds_up(alloc, &many, &many, "a 14;")?);
+    assert!(rt; shared_adds_up(alloc, &many[..2], &many[1..3], "a 3;")?);
     Ok(())
 }
 

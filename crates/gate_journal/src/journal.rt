@@ -161,6 +161,8 @@ impl Journal {
 
         // At any moment each image has the list, or the list with this body.
         ensures any_moment { Tells (D.view disk.old) → Leads (Appends self.old.file (list_of (D.view disk.old) self.old) body.now) (D.view disk.old) (D.view disk.new) }
+        // It touches no other file, also on a disk that doesn't tell.
+        ensures touches { Leads (Touches self.old.file InAnyWay) (D.view disk.old) (D.view disk.new) }
         ensures goes_on { GoesOn (D.view disk.old) (D.view disk.new) }
     {
         if self.count == self.limit {

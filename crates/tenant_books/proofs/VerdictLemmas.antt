@@ -39,6 +39,11 @@ kept-few kept push (Kept receipt) = omega (arith, length_push kept push)
 kept-few kept push (FrontAhead asked front) = omega arith
 kept-few kept push (OverLimit held adds limit front) = omega arith
 
+pub kept-grows : (kept : List Push) (push : Push) (verdict : Verdict) → length kept ≤ length (with_kept kept push verdict)
+kept-grows kept push (Kept receipt) = omega (arith, length_push kept push)
+kept-grows kept push (FrontAhead asked front) = omega arith
+kept-grows kept push (OverLimit held adds limit front) = omega arith
+
 pub kept-bounded : (kept : List Push) (push : Push) (verdict : Verdict) → HasBoundedTotals kept
     → (is_kept verdict ≡ true → tenant_total kept push.tenant + profiles_total push.profiles < total_bound) → HasBoundedTotals (with_kept kept push verdict)
 kept-bounded kept push (Kept receipt) bounded within = bounded-push kept push bounded (within refl)

@@ -35,10 +35,10 @@ pub fn judge(
     asks: Vec<PushAsk>,
 ) -> Result<Judged, AllocError>
     ensures verdicts { IfOk result (λ judged. (history : List Push) → AreBooksOf books.now history → HasBoundedTotals history
-        → length history ≡ end → end + length asks.items < 2 ^ 63
+        → length history ≡ end → end + length judged.kept.items < 2 ^ 63
         → AreVerdicts (limit_of limits.now) history asks.items judged.verdicts.items (history ++ judged.kept.items)) }
     ensures bounded { IfOk result (λ judged. (history : List Push) → AreBooksOf books.now history → HasBoundedTotals history
-        → length history ≡ end → end + length asks.items < 2 ^ 63
+        → length history ≡ end → end + length judged.kept.items < 2 ^ 63
         → HasBoundedTotals (history ++ judged.kept.items)) }
     ensures few { IfOk result (λ judged. length judged.kept.items ≤ length asks.items) }
     ensures kept { IfOk result (λ judged. judged.kept.items ≡ kept_of asks.items judged.verdicts.items) }

@@ -8,7 +8,7 @@ use Rattle.tenant_books.specs.Keeping.{is_kept, is_kept_alone}
 use Rattle.tenant_books.specs.Limits.{limit_of}
 use Rattle.tenant_books.specs.Verdicts.{AreVerdicts, IsVerdict, kept_of, with_kept}
 use Rattle.tenant_books.proofs.KeptLemmas.{kept_more, kept_still, none_more}
-use Rattle.tenant_books.proofs.VerdictLemmas.{kept-behind, kept-bounded, kept-few, verdict-bounded, verdicts-more}
+use Rattle.tenant_books.proofs.VerdictLemmas.{kept-behind, kept-bounded, kept-few, kept-grows, verdict-bounded, verdicts-more}
 use Rattle.tenant_books.proofs.judging.judge.Goals as goal
 
 pub loop-ask-preserved : goal.loop-ask-preserved
@@ -21,6 +21,7 @@ loop-ask-preserved c =
     let long = length_push c.loop-ask.yielded ask in
     let size = ap (length {A = Push}) c.deref.ensures.value in
     let some = kept-few kept ask.push verdict in
+    let more = kept-grows kept ask.push verdict in
     let grown = ap (length {A = Push}) c.in_ok-keep.ensures in
     record {
       within =

@@ -15,8 +15,8 @@ invariant-loop-ask l = record {
   long : length l.verdicts.items ≡ length l.yielded;
   kept : l.kept.items ≡ kept_of l.yielded l.verdicts.items;
   none : list_any (is_kept_alone l.books l.limits) l.yielded ≡ false → l.kept.items ≡ [];
-  verdicts : (history : List Push) → AreBooksOf l.books history → HasBoundedTotals history → length history ≡ l.end → l.end + length l.yielded < 2 ^ 63
+  verdicts : (history : List Push) → AreBooksOf l.books history → HasBoundedTotals history → length history ≡ l.end → l.end + length l.kept.items < 2 ^ 63
       → AreVerdicts (limit_of l.limits) history l.yielded l.verdicts.items (history ++ l.kept.items);
-  bounded : (history : List Push) → AreBooksOf l.books history → HasBoundedTotals history → length history ≡ l.end → l.end + length l.yielded < 2 ^ 63
+  bounded : (history : List Push) → AreBooksOf l.books history → HasBoundedTotals history → length history ≡ l.end → l.end + length l.kept.items < 2 ^ 63
       → HasBoundedTotals (history ++ l.kept.items);
 }

@@ -1,5 +1,5 @@
 -- What the bodies of an index file list, read one after another.
-use Rattle.std.proofs.Common.{◌≡◌, inl, inr, ℕ, zero, suc, ◌+◌, ◌≤◌, Bool, true, false, List, [], ◌∷◌, ◌++◌, length, take, drop, Some, refl, sym, ◌∙◌, ap, subst, arith, All}
+use Rattle.std.proofs.Common.{◌≡◌, inl, inr, ℕ, zero, suc, ◌+◌, ◌^◌, ◌<◌, ◌≤◌, Bool, true, false, List, [], ◌∷◌, ◌++◌, length, take, drop, Some, refl, sym, ◌∙◌, ap, subst, arith, All}
 use Rattle.std.specs.Prelude.{MatchBool, slice_get}
 use Rattle.std.specs.List.{AllZip}
 use Rattle.std.proofs.lemmas.List.{take_all, take-append-drop, take_more}
@@ -9,9 +9,10 @@ use Rattle.gate_journal.specs.Journal.{JournalView, list_of, IsOpen, IsSettled, 
 use Rattle.metastore_index.specs.declared.entry.Entry.{Entry}
 use Rattle.metastore_index.specs.declared.fault.ApplyFault.{ApplyFault}
 use Rattle.metastore_index.specs.declared.fault.ApplyFault.TheVariants.{NotARun}
-use Rattle.metastore_index.specs.Entries.{HasPlace, IndexView, IsTaken}
+use Rattle.metastore_index.specs.Entries.{Becomes, HasPlace, IndexView, IsTaken, end_of}
 use Rattle.metastore_index.specs.Entries.Becomes.{follows, stands}
 use Rattle.metastore_index.specs.Taken.{IsBodyOf, Takes}
+use Rattle.metastore_index.proofs.EndLemmas.{end_moves}
 use Rattle.metastore_index.proofs.OneIndexLemmas.{next_is_taken}
 use Rattle.history_files.specs.History.{IsBounded, Lists}
 use Rattle.history_files.proofs.StandLemmas.{lists_come, lists_push}
@@ -84,3 +85,14 @@ takes_some index entry taken = by_place taken.fits
       record { entries = before ++ entry ∷ after; greatest = entry.id; spare = 0 },
       record { taken = taken; becomes = stands before run after parts high over refl; greatest = refl },
     )
+
+-- ---- where the pushes end
+
+pub ends_short : (entries : List Entry) (entry : Entry) (next : List Entry) → Becomes entries entry next → end_of entries < 2 ^ 63 → IsBounded entry → end_of next < 2 ^ 63
+ends_short entries entry next becomes short bounded =
+    let moves = end_moves entries entry next becomes in
+    by_level entry.level moves.0 moves.1
+  where
+    by_level : (level : ℕ) → (level ≡ 0 → (entry.lo ≡ end_of entries) × (end_of next ≡ entry.hi)) → (1 ≤ level → end_of next ≡ end_of entries) → end_of next < 2 ^ 63
+    by_level zero low high = omega (arith, (low refl).1, bounded.until)
+    by_level (suc n) low high = omega (arith, high (omega arith), short)

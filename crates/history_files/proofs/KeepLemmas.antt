@@ -7,7 +7,7 @@ use Rattle.gate_journal.specs.Slots.{bodies_of}
 use Rattle.profile_model.specs.declared.push.Push.{Push}
 use Rattle.history_files.specs.History.{StandFor}
 use Rattle.history_files.specs.Keeps.{IsFront, Keeping, Keeps, StandForEither, Start, start_at}
-use Rattle.history_files.specs.Standing.{StandAlike}
+use Rattle.history_files.specs.Standing.{SameOrStand, StandAlike}
 use Rattle.history_files.proofs.StandLemmas.{alike}
 
 pub rose_on : (a n m : ℕ) → Rose a n → n ≤ m → Rose a m
@@ -16,7 +16,7 @@ rose_on a n m rose more = omega (arith, rose, more)
 pub rose_from : (a b n : ℕ) → a ≤ b → Rose b n → Rose a n
 rose_from a b n less rose = omega (arith, less, rose)
 
-module _ (records : ℕ) (start : Start) (IsFlight : List Push → Type 0) (faults : ℕ) where
+module _ (records : ℕ) (start : Start) (IsFlight : List Push → List Push → Type 0) (faults : ℕ) where
   -- what came to it later, an image of before doesn't mind
   front_longer : (now : ℕ) (rest added : List Push) (image : Files) → faults ≤ now → IsFront records start IsFlight faults rest image → IsFront records start IsFlight now (rest ++ added) image
   front_longer now rest added image more it = record {
@@ -40,18 +40,18 @@ module _ (records : ℕ) (start : Start) (IsFlight : List Push → Type 0) (faul
   }
 
   -- all of it, with a flight
-  front_flight : (whole rest flight : List Push) (image : Files) → whole ≡ start.history ++ rest → IsFlight flight → Rose start.faults faults → StandFor records image (whole ++ flight) → IsFront records start IsFlight faults rest image
+  front_flight : (whole rest flight : List Push) (image : Files) → whole ≡ start.history ++ rest → IsFlight whole flight → Rose start.faults faults → StandFor records image (whole ++ flight) → IsFront records start IsFlight faults rest image
   front_flight whole rest flight image begins is_flight rose has = record {
     front = rest;
     back = [];
     flight = flight;
     is = sym (append-nil rest);
-    risen = inr (is_flight, rose);
+    risen = inr (subst (λ (l : List Push). IsFlight l flight) begins is_flight, rose);
     stands = subst (λ (l : List Push). StandFor records image l) (ap (λ (l : List Push). l ++ flight) begins ∙ append_assoc start.history rest flight) has;
   }
 
 -- A call, whose images are each a front of what is kept then.
-pub keeps_on : (records : ℕ) (start : Start) (IsFlight : List Push → Type 0) (P : Files → Type 0) (old new : DiskView) (whole added : List Push) (kept : Keeps records start IsFlight old whole) → GoesOn old new → Leads (λ before image. P image) old new
+pub keeps_on : (records : ℕ) (start : Start) (IsFlight : List Push → List Push → Type 0) (P : Files → Type 0) (old new : DiskView) (whole added : List Push) (kept : Keeps records start IsFlight old whole) → GoesOn old new → Leads (λ before image. P image) old new
     → ((image : Files) → P image → IsFront records start IsFlight new.faults (kept.rest ++ added) image) → Keeps records start IsFlight new (whole ++ added)
 keeps_on records start IsFlight P old new whole added kept goes run late = record {
   since = omega (arith, kept.since, run.later);
@@ -64,7 +64,7 @@ keeps_on records start IsFlight P old new whole added kept goes run late = recor
       (run.since start.moment image kept.since left);
 }
 
-module _ (records : ℕ) (start : Start) (IsFlight : List Push → Type 0) (old new : DiskView) (whole : List Push) (kept : Keeps records start IsFlight old whole) (goes : GoesOn old new) where
+module _ (records : ℕ) (start : Start) (IsFlight : List Push → List Push → Type 0) (old new : DiskView) (whole : List Push) (kept : Keeps records start IsFlight old whole) (goes : GoesOn old new) where
   -- nothing came to it
   pub keeps_same : Leads (λ before image. StandFor records image whole) old new → Keeps records start IsFlight new whole
   keeps_same run = subst (λ (l : List Push). Keeps records start IsFlight new l) (append-nil whole)
@@ -81,7 +81,7 @@ module _ (records : ℕ) (start : Start) (IsFlight : List Push → Type 0) (old 
         step)
 
     -- they may not have been: they are a flight
-    pub keeps_failed : IsFlight more → Rose start.faults new.faults → Keeps records start IsFlight new whole
+    pub keeps_failed : IsFlight whole more → Rose start.faults new.faults → Keeps records start IsFlight new whole
     keeps_failed is_flight rose = subst (λ (l : List Push). Keeps records start IsFlight new l) (append-nil whole)
         (keeps_on records start IsFlight (λ image. StandForEither records whole (whole ++ more) image) old new whole [] kept goes run
         (λ image step.
@@ -92,7 +92,7 @@ module _ (records : ℕ) (start : Start) (IsFlight : List Push → Type 0) (old 
         step))
 
 -- What may come to a history, over a call.
-module _ (records : ℕ) (start : Start) (IsFlight : List Push → Type 0) (old new : DiskView) (h added : List Push) (it : Keeping records start IsFlight old h added) (goes : GoesOn old new) where
+module _ (records : ℕ) (start : Start) (IsFlight : List Push → List Push → Type 0) (old new : DiskView) (h added : List Push) (it : Keeping records start IsFlight old h added) (goes : GoesOn old new) where
   rose_now : Rose start.faults old.faults → Rose start.faults new.faults
   rose_now rose = rose_on start.faults old.faults new.faults rose goes.faults
 
@@ -110,7 +110,7 @@ module _ (records : ℕ) (start : Start) (IsFlight : List Push → Type 0) (old 
         (λ is. subst (λ (l : List Push). Keeps records start IsFlight new l) (sym is) (keeps_kept records start IsFlight old new h it.keeps goes added run))
         which)
         it.risen;
-    risen = ⊎_elim (λ none. inl none) (λ same. ⊎_elim (λ none. inl (same.1 ∙ none)) (λ both. inr (subst IsFlight (sym same.1) both.0, rose_now both.1)) it.risen) rest;
+    risen = ⊎_elim (λ none. inl none) (λ same. ⊎_elim (λ none. inl (same.1 ∙ none)) (λ both. inr (subst (λ (l : List Push). IsFlight l added-new) (sym same.0) (subst (λ (l : List Push). IsFlight h l) (sym same.1) both.0), rose_now both.1)) it.risen) rest;
   }
 
   -- A call that leaves the history, with nothing to come.
@@ -123,16 +123,16 @@ module _ (records : ℕ) (start : Start) (IsFlight : List Push → Type 0) (old 
     was_kept = record { keeps = keeps_kept records start IsFlight old new h it.keeps goes pushes run; risen = inl refl }
 
     -- They may turn out to be.
-    pub was_doubted : IsFlight pushes → Rose old.faults new.faults → (added-new : List Push) → (added-new ≡ []) ⊎ (added-new ≡ pushes) → Keeping records start IsFlight new h added-new
+    pub was_doubted : IsFlight h pushes → Rose old.faults new.faults → (added-new : List Push) → (added-new ≡ []) ⊎ (added-new ≡ pushes) → Keeping records start IsFlight new h added-new
     was_doubted is_flight rise added-new rest =
         let rose : Rose start.faults new.faults = rose_from start.faults old.faults new.faults it.keeps.counts rise in
         record {
           keeps = keeps_failed records start IsFlight old new h it.keeps goes pushes run is_flight rose;
-          risen = ⊎_elim (λ none. inl none) (λ same. inr (subst IsFlight (sym same) is_flight, rose)) rest;
+          risen = ⊎_elim (λ none. inl none) (λ same. inr (subst (λ (l : List Push). IsFlight h l) (sym same) is_flight, rose)) rest;
         }
 
 -- at a start, where each image has the history
-pub keeps_begun : (records : ℕ) (IsFlight : List Push → Type 0) (disk : DiskView) (history : List Push) → ((image : Files) → disk.images_now image → StandFor records image history)
+pub keeps_begun : (records : ℕ) (IsFlight : List Push → List Push → Type 0) (disk : DiskView) (history : List Push) → ((image : Files) → disk.images_now image → StandFor records image history)
     → Keeps records (record { moment = disk.moment; faults = disk.faults; history = history }) IsFlight disk history
 keeps_begun records IsFlight disk history all =
     let start : Start = record { moment = disk.moment; faults = disk.faults; history = history } in record {
@@ -148,11 +148,25 @@ pub quiet_alike : (records : ℕ) (disk : DiskView) → IsQuiet disk → (image 
 quiet_alike records disk quiet image left =
     alike records disk.files image (ap (λ (o : Option (List ℕ)). bodies_of (bytes_of o)) (quiet (Index 0) image left)) (λ file other. quiet file image left)
 
--- An opening keeps the history that the files stand for.
-pub opened_keeps : (records : ℕ) (IsFlight : List Push → Type 0) (old new : DiskView) (history : List Push) → IsQuiet old → StandFor records old.files history → GoesOn old new
+-- An opening keeps what was kept since an earlier start: an image is one of before, or stands for the history.
+pub keeps_opened : (records : ℕ) (start : Start) (IsFlight : List Push → List Push → Type 0) (old new : DiskView) (history : List Push)
+    → Keeps records start IsFlight old history → GoesOn old new → Leads (SameOrStand records history) old new → Keeps records start IsFlight new history
+keeps_opened records start IsFlight old new history kept goes run =
+    let IsOne : Files → Type 0 = IsFront records start IsFlight old.faults kept.rest in
+    let moments : Leads (λ before image. IsOne image) old new = widen run (λ before image left step. ⊎_elim
+    (λ same. subst IsOne (sym same) (kept.each before (old.counts_now start.moment before kept.since left)))
+    (λ has. front_whole records start IsFlight old.faults history kept.rest image kept.begins has)
+    step) in
+    subst (λ (l : List Push). Keeps records start IsFlight new l) (append-nil history)
+    (keeps_on records start IsFlight IsOne old new history [] kept goes moments
+    (λ image is. front_longer records start IsFlight old.faults new.faults kept.rest [] image goes.faults is))
+
+-- It keeps the history that the files stand for.
+pub opened_keeps : (records : ℕ) (IsFlight : List Push → List Push → Type 0) (old new : DiskView) (history : List Push) → IsQuiet old → StandFor records old.files history → GoesOn old new
     → Leads (λ before image. StandAlike records old.files image) old new → Keeping records (start_at old history) IsFlight new history []
-opened_keeps records IsFlight old new history quiet stands goes run =
-    let all : Leads (λ before image. StandFor records image history) old new = widen run (λ before image left step. (step history).0 stands) in record {
-      keeps = keeps_same records (start_at old history) IsFlight old new history (keeps_begun records IsFlight old history (λ image left. (quiet_alike records old quiet image left history).0 stands)) goes all;
-      risen = inl refl;
-    }
+opened_keeps records IsFlight old new history quiet stands goes run = record {
+  keeps = keeps_same records (start_at old history) IsFlight old new history
+      (keeps_begun records IsFlight old history (λ image left. (quiet_alike records old quiet image left history).0 stands)) goes
+      (widen run (λ before image left step. (step history).0 stands));
+  risen = inl refl;
+}

@@ -1,5 +1,5 @@
 -- What an opening leads to.
-use Rattle.std.proofs.Common.{◌≡◌, ◌⊎◌, ⊎_elim, ℕ, ◌<◌, ◌≤◌, List, length, take, Option, Some, None, refl, sym, ◌∙◌, ap, subst, arith}
+use Rattle.std.proofs.Common.{◌≡◌, ◌⊎◌, inl, inr, ⊎_elim, ℕ, ◌<◌, ◌≤◌, List, length, take, Option, Some, None, refl, sym, ◌∙◌, ap, subst, arith}
 use Rattle.std.specs.Prelude.{IsSome, MatchOption}
 use Rattle.std.proofs.lemmas.Option.{same_Some}
 use Rattle.disk_trait.specs.declared.disk.FileId.{FileId}
@@ -7,14 +7,15 @@ use Rattle.disk_trait.specs.declared.disk.FileId.TheVariants.{Index, Object}
 use Rattle.disk_trait.specs.Disk.{Files, DiskView, Tells, Leads, Looks, Stays, Touches, IsDurable, IsQuiet, bytes_of}
 use Rattle.disk_trait.proofs.Steps.{goes_on, widen, stays_after, stays_before, durable_beside, looked_durable}
 use Rattle.gate_journal.specs.Slots.{bodies_of, AtRest}
+use Rattle.gate_journal.proofs.Gates.{bodies-at_rest}
 use Rattle.gate_journal.specs.Journal.{JournalView, list_of, InAnyWay, IsSettled, IsUnsettled, MaybeAppended, OthersStay, SameBodies}
 use Rattle.metastore_index.specs.declared.entry.Entry.{Entry}
 use Rattle.metastore_index.specs.Entries.{IndexView}
 use Rattle.profile_model.specs.declared.push.Push.{Push}
 use Rattle.push_history.specs.History.{HasBoundedTotals}
-use Rattle.history_files.specs.History.{AreHeld, IsBlamed, Lists, StandFor}
+use Rattle.history_files.specs.History.{AreHeld, HasIndex, IsBlamed, Lists, StandFor}
 use Rattle.history_files.specs.History.IsBlamed.{index as no_index}
-use Rattle.history_files.specs.Standing.{IsAtRest, IsInFlight, IsPrepared, IsSynced, StandAlike}
+use Rattle.history_files.specs.Standing.{IsAtRest, IsInFlight, IsPrepared, IsSynced, SameOrStand, StandAlike}
 use Rattle.history_files.proofs.HeldLemmas.{held_alike}
 use Rattle.history_files.proofs.KeepLemmas.{quiet_alike}
 use Rattle.history_files.proofs.RestLemmas.{flies_still}
@@ -33,6 +34,21 @@ module _ (file : FileId) where
   -- it is looked at
   pub looked_beside : {old mid new last : DiskView} → Leads Stays old mid → Leads (Touches file InAnyWay) mid new → Leads Stays new last → Leads (OthersStay file) old last
   looked_beside look run more = stays_after {one = OthersStay file} (opened_beside look run) more
+
+  -- its bodies stay, where the files are synced
+  pub bodies_still : {old new : DiskView} → Leads Stays old new → Leads (Touches file SameBodies) old new
+  bodies_still look = widen look (λ before image left stays. record {
+    here = ap (λ (f : Files). bodies_of (bytes_of (f file))) stays;
+    others = λ other differs. ap (λ (f : Files). f other) stays;
+  })
+
+  -- and a journal is opened on it
+  pub bodies_opened : {old mid new : DiskView} → Leads Stays old mid → Leads (Touches file SameBodies) mid new → Leads (Touches file SameBodies) old new
+  bodies_opened look run = stays_before {one = Touches file SameBodies} (λ before left. record { here = refl; others = λ other differs. refl }) look run
+
+  -- and it is looked at
+  pub bodies_looked : {old mid new last : DiskView} → Leads Stays old mid → Leads (Touches file SameBodies) mid new → Leads Stays new last → Leads (Touches file SameBodies) old last
+  bodies_looked look run more = stays_after {one = Touches file SameBodies} (bodies_opened look run) more
 
 -- ---- each moment, where nothing waited for a sync
 
@@ -62,8 +78,11 @@ module _ (records : ℕ) (old : DiskView) (quiet : IsQuiet old) where
 
 -- ---- each moment after the sync, where calls waited for one
 
-module _ (records : ℕ) (old mid : DiskView) (synced : IsSynced old mid) (history : List Push) (stands : StandFor records old.files history)
-    (listed : IsSome (old.files (Index 0)) ⊎ IsDurable (Index 0) old) where
+-- while the files are synced
+pub synced_on : (records : ℕ) (history : List Push) (old mid : DiskView) → Leads Stays old mid → Leads (SameOrStand records history) old mid
+synced_on records history old mid run = widen run (λ before image left stays. inl stays)
+
+module _ (old mid : DiskView) (synced : IsSynced old mid) (listed : IsSome (old.files (Index 0)) ⊎ IsDurable (Index 0) old) where
   pub index_waited : IsDurable (Index 0) mid
   index_waited image left = ⊎_elim
       (λ there. synced.durable (Index 0) there image left)
@@ -72,32 +91,58 @@ module _ (records : ℕ) (old mid : DiskView) (synced : IsSynced old mid) (histo
       ap (λ (f : Files). f (Index 0)) before.2 ∙ durable before.0 before.1 ∙ sym (ap (λ (f : Files). f (Index 0)) synced.files))
       listed
 
-  -- files with the index file's bodies, and with each object that was there
-  stand_by : (image : Files) → bodies_of (bytes_of (image (Index 0))) ≡ bodies_of (bytes_of (old.files (Index 0)))
-      → ((id : ℕ) → IsSome (old.files (Object id)) → image (Object id) ≡ old.files (Object id)) → StandFor records image history
-  stand_by image bodies objects = record {
-    index = stands.index;
-    has = record {
-      lists = subst (λ (bs : List (List ℕ)). Lists bs stands.index) (sym bodies) stands.has.lists;
-      few = omega (arith, ap length bodies, stands.has.few);
-    };
-    held = held_alike old.files image stands.index.entries history objects stands.held;
-    totals = stands.totals;
-  }
-
   there_in : (image : Files) → mid.images_now image → (file : FileId) → IsSome (old.files file) → image file ≡ old.files file
   there_in image left file there = synced.durable file there image left ∙ ap (λ (f : Files). f file) synced.files
 
   index_in : (image : Files) → mid.images_now image → image (Index 0) ≡ old.files (Index 0)
   index_in image left = index_waited image left ∙ ap (λ (f : Files). f (Index 0)) synced.files
 
-  -- the journal is opened, and its index looked at
-  pub opened_stand : (new last : DiskView) → Leads (Touches (Index 0) SameBodies) mid new → Leads Stays new last → Leads (λ before image. StandFor records image history) mid last
-  opened_stand new last run look = stays_after (widen run (λ before image left step.
-      stand_by image (step.here ∙ ap (λ (o : Option (List ℕ)). bodies_of (bytes_of o)) (index_in before left))
-      (λ id there. step.others (Object id) (λ same. not_index id (sym same)) ∙ there_in before left (Object id) there))) look
+  module _ (records : ℕ) (history : List Push) (stands : StandFor records old.files history) where
+    -- files with the index file's bodies, and with each object that was there
+    stand_by : (image : Files) → bodies_of (bytes_of (image (Index 0))) ≡ bodies_of (bytes_of (old.files (Index 0)))
+        → ((id : ℕ) → IsSome (old.files (Object id)) → image (Object id) ≡ old.files (Object id)) → StandFor records image history
+    stand_by image bodies objects = record {
+      index = stands.index;
+      has = record {
+        lists = subst (λ (bs : List (List ℕ)). Lists bs stands.index) (sym bodies) stands.has.lists;
+        few = omega (arith, ap length bodies, stands.has.few);
+      };
+      held = held_alike old.files image stands.index.entries history objects stands.held;
+      totals = stands.totals;
+    }
+
+    stand_after : (before image : Files) → mid.images_now before → Touches (Index 0) SameBodies before image → StandFor records image history
+    stand_after before image left step =
+        stand_by image (step.here ∙ ap (λ (o : Option (List ℕ)). bodies_of (bytes_of o)) (index_in before left))
+        (λ id there. step.others (Object id) (λ same. not_index id (sym same)) ∙ there_in before left (Object id) there)
+
+    -- the journal is opened, and its index looked at
+    pub opened_stand : (new last : DiskView) → Leads (Touches (Index 0) SameBodies) mid new → Leads Stays new last → Leads (λ before image. StandFor records image history) mid last
+    opened_stand new last run look = stays_after (widen run stand_after) look
+
+    -- from before the sync on
+    pub opened_on : (new : DiskView) → Leads (Touches (Index 0) SameBodies) mid new → Leads (SameOrStand records history) old new
+    opened_on new run = goes_on synced.stays run
+        (λ before image left stays. inl stays)
+        (λ before between image left stays now step. inr (stand_after between image now step))
+
+    pub looked_on : (new last : DiskView) → Leads (Touches (Index 0) SameBodies) mid new → Leads Stays new last → Leads (SameOrStand records history) old last
+    looked_on new last run look = stays_after (opened_on new run) look
 
 -- ---- what was opened
+
+-- a settled journal over the index file has the records of its index, and counts them
+pub index_reads : (records : ℕ) (disk : DiskView) (journal : JournalView) (index : IndexView) → journal.file ≡ Index 0 → journal.limit ≡ records → journal.count ≤ journal.limit
+    → Lists (list_of disk journal) index → IsSettled disk journal → HasIndex records disk.files index × (journal.count ≡ length (bodies_of (bytes_of (disk.files (Index 0)))))
+index_reads records disk journal index file limit within lists settled =
+    let is : bodies_of (bytes_of (disk.files (Index 0))) ≡ list_of disk journal =
+    ap (λ (f : FileId). bodies_of (bytes_of (disk.files f))) (sym file) ∙ bodies-at_rest (list_of disk journal) (disk.files journal.file) settled.rest in (
+      record {
+        lists = subst (λ (bs : List (List ℕ)). Lists bs index) (sym is) lists;
+        few = omega (arith, ap length is, settled.count, within, limit);
+      },
+      settled.count ∙ sym (ap length is),
+    )
 
 -- a look leaves a journal settled
 pub settled_looked : (old new : DiskView) (journal : JournalView) → IsSettled old journal → Looks old new → IsSettled new journal
@@ -154,6 +199,11 @@ module _ (records : ℕ) (old mid new : DiskView) (journal : JournalView) (files
     durable = λ id there. looked_durable (Object id)
         (durable_beside mid new (Object id) (Index 0) (λ same. not_index id (sym same)) (durable (Object id) there) tells touches) look;
   }
+
+-- What was opened reads its index.
+pub prepared_reads : (records : ℕ) (old new : DiskView) (journal : JournalView) (index : IndexView) → IsPrepared records old new journal index
+    → HasIndex records new.files index × (journal.count ≡ length (bodies_of (bytes_of (new.files (Index 0)))))
+prepared_reads records old new journal index it = index_reads records new journal index it.file it.limit it.within it.lists it.settled
 
 -- What was opened is at rest with the history that its objects hold, and the files stood for that.
 module _ (records : ℕ) (old new : DiskView) (journal : JournalView) (index : IndexView) (history : List Push) (it : IsPrepared records old new journal index)

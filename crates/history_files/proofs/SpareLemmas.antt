@@ -9,7 +9,7 @@ use Rattle.disk_trait.specs.Disk.{Files, DiskView, Tells, Leads, Stays, Touches,
 use Rattle.disk_trait.proofs.Steps.{goes_on, widen, still}
 use Rattle.metastore_index.specs.declared.entry.Entry.{Entry}
 use Rattle.history_files.specs.History.{StandFor}
-use Rattle.history_files.specs.Standing.{Spares, Fewer, KeepsLive, NoneFrom, is_spare, is_spare_file}
+use Rattle.history_files.specs.Standing.{Spares, Fewer, KeepsLive, LosesSpares, NoneFrom, is_spare, is_spare_file}
 use Rattle.history_files.proofs.HeldLemmas.{IsDead}
 use Rattle.history_files.proofs.RestLemmas.{rests_stand, rests_beside, rests_still, touched_stand}
 
@@ -116,6 +116,35 @@ file_cases Root LimitsFile = inr (λ same. absurd (cc))
 file_cases LimitsFile (Index n) = inr (λ same. absurd (cc))
 file_cases LimitsFile (Object n) = inr (λ same. absurd (cc))
 file_cases LimitsFile Root = inr (λ same. absurd (cc))
+
+-- a step on an object that is no entry's loses no other file
+loses_beside : (entries : List Entry) (file : FileId) (before after : Files) → is_spare_file file entries ≡ true → Touches file MaybeGone before after → LosesSpares entries before after
+loses_beside entries file before after spare touch other = ⊎_elim
+    (λ same. ⊎_elim
+    (λ stays. inl (ap after same ∙ stays ∙ ap before (sym same)))
+    (λ gone. inr (ap (λ (f : FileId). is_spare_file f entries) same ∙ spare, ap after same ∙ gone))
+    touch.here)
+    (λ differs. inl (touch.others other differs))
+    (file_cases other file)
+
+module _ (entries : List Entry) where
+  pub loses_look : {old new : DiskView} → Leads Stays old new → Leads (LosesSpares entries) old new
+  loses_look look = widen look (λ before image left stays file. inl (ap (λ (f : Files). f file) stays))
+
+  pub loses_again : {old mid new : DiskView} → Leads (LosesSpares entries) old mid → Leads (LosesSpares entries) mid new → Leads (LosesSpares entries) old new
+  loses_again one two = goes_on one two (λ before image left step. step) (λ before between image left first now second file. ⊎_elim
+      (λ same. ⊎_elim (λ stays. inl (same ∙ stays)) (λ gone. inr (gone.0, same ∙ gone.1)) (first file))
+      (λ gone. inr gone)
+      (second file))
+
+  -- one removal, also one that failed
+  module _ {D : Type 0} (view : D → DiskView) (old new : D) (file : FileId) where
+    pub loses_step : MatchBool (is_spare_file file entries) (Leads (Touches file MaybeGone) (view old) (view new)) (new ≡ old) → Leads (LosesSpares entries) (view old) (view new)
+    loses_step step = by_test (is_spare_file file entries) refl step
+      where
+        by_test : (b : Bool) → is_spare_file file entries ≡ b → MatchBool b (Leads (Touches file MaybeGone) (view old) (view new)) (new ≡ old) → Leads (LosesSpares entries) (view old) (view new)
+        by_test true spare run = widen run (λ before image left touch. loses_beside entries file before image spare touch)
+        by_test false spare same = loses_look (subst (λ (d : D). Leads Stays (view old) (view d)) (sym same) (still (view old)))
 
 gone_stays : (before after : Option (List ℕ)) → MaybeGone before after → before ≡ None → after ≡ None
 gone_stays before after (inl same) none = same ∙ none

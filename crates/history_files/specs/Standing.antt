@@ -1,5 +1,5 @@
 -- What a journal, an index and objects are to the disk.
-use Rattle.std.specs.Prelude.{◌≡◌, ℕ, ◌+◌, ◌<◌, ◌≤◌, Bool, true, false, not, ◌&&◌, ◌==◌, List, [], ◌∷◌, ◌++◌, length, None, Some, IsSome, ◌↔◌}
+use Rattle.std.specs.Prelude.{◌≡◌, ◌⊎◌, ℕ, ◌+◌, ◌<◌, ◌≤◌, Bool, true, false, not, ◌&&◌, ◌==◌, List, [], ◌∷◌, ◌++◌, length, None, Some, IsSome, ◌↔◌}
 use Rattle.disk_trait.specs.declared.disk.FileId.{FileId}
 use Rattle.disk_trait.specs.declared.disk.FileId.TheVariants.{Index, Object, Root, LimitsFile}
 use Rattle.disk_trait.specs.Disk.{Files, DiskView, IsDurable, Leads, MaybeGone, Stays}
@@ -89,6 +89,10 @@ Spares entries old new =
 abbrev pub KeepsLive : List Entry → Files → Files → Type 0
 KeepsLive entries before after = (file : FileId) → is_spare_file file entries ≡ false → after file ≡ before file
 
+-- each file is as before, or was the object of none of these entries and is gone
+abbrev pub LosesSpares : List Entry → Files → Files → Type 0
+LosesSpares entries before after = (file : FileId) → (after file ≡ before file) ⊎ ((is_spare_file file entries ≡ true) × (after file ≡ None))
+
 -- each file is as before, or gone
 abbrev pub Fewer : Files → Files → Type 0
 Fewer before after = (file : FileId) → MaybeGone (before file) (after file)
@@ -96,6 +100,10 @@ Fewer before after = (file : FileId) → MaybeGone (before file) (after file)
 -- these files stand for what those stand for, or for nothing where those do
 abbrev pub StandAlike : ℕ → Files → Files → Type 0
 StandAlike records files image = (history : List Push) → StandFor records files history ↔ StandFor records image history
+
+-- files are as before, or stand for this history
+abbrev pub SameOrStand : ℕ → List Push → Files → Files → Type 0
+SameOrStand records history before image = (image ≡ before) ⊎ StandFor records image history
 
 -- What an opening has read: a journal over the index file, with its index. No other file was changed, and each object
 -- that is there is on the disk.

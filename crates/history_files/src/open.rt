@@ -1,15 +1,16 @@
 // What an opening reads before it looks at the objects.
-ghost use Rattle.std.specs.Prelude.{◌≡◌, ◌≢◌, ◌⊎◌, ◌<◌, ◌≤◌, ◌^◌, List, OnOk, IfOk, IfSome, IsErrOf, IsNone, IsSome, MatchOption, true};
-ghost use Rattle.disk_trait.specs.Disk.{Tells, Rose, GoesOn, Leads, Looks, Stays, IsDurable, IsQuiet};
+ghost use Rattle.std.specs.Prelude.{◌≡◌, ◌≢◌, ◌⊎◌, ◌<◌, ◌≤◌, ◌^◌, List, length, OnOk, IfOk, IfSome, IsErrOf, IsNone, IsSome, MatchOption, true};
+ghost use Rattle.disk_trait.specs.Disk.{Tells, Rose, GoesOn, Leads, Looks, Stays, Touches, IsDurable, IsQuiet, bytes_of};
 ghost use Rattle.disk_trait.specs.declared.disk.FileId.{FileId};
 ghost use Rattle.disk_trait.specs.declared.disk.FileId.TheVariants as names;
-ghost use Rattle.gate_journal.specs.Journal.{IsOpen, list_of};
+ghost use Rattle.gate_journal.specs.Slots.{bodies_of};
+ghost use Rattle.gate_journal.specs.Journal.{IsOpen, SameBodies, list_of};
 ghost use Rattle.metastore_index.specs.declared.entry.Entry as entries;
-ghost use Rattle.metastore_index.specs.Entries.{IndexView};
+ghost use Rattle.metastore_index.specs.Entries.{IndexView, end_of};
 ghost use Rattle.metastore_index.specs.Taken.{IsBodyOf};
 ghost use Rattle.profile_model.specs.declared.push.Push.{Push};
-ghost use Rattle.history_files.specs.History.{IsBlamed, IsBounded, Lists, StandFor};
-ghost use Rattle.history_files.specs.Standing.{IsPrepared, IsSynced, StandAlike};
+ghost use Rattle.history_files.specs.History.{HasIndex, IsBlamed, IsBounded, Lists, StandFor};
+ghost use Rattle.history_files.specs.Standing.{IsPrepared, IsSynced, SameOrStand, StandAlike};
 
 use crate::fault::{FilesFault, OpenFault};
 use disk_trait::{Disk, DiskError, FileId};
@@ -68,6 +69,7 @@ pub fn read_index<D: Disk>(
     ensures told { Tells (D.view disk.old) → IfOk result (λ found. MatchOption found
         ((index : IndexView) → ¬ (Lists (list_of (D.view disk.old) journal.now) index))
         (λ index. Lists (list_of (D.view disk.old) journal.now) index)) }
+    ensures short { IfOk result (λ found. IfSome found (λ index. end_of index.entries < 2 ^ 63)) }
     ensures failed { IsErrOf result FilesFault.Disk → Rose (D.view disk.old).faults (D.view disk.new).faults }
     ensures memory { IsErrOf result FilesFault.Memory → (D.view disk.new).faults ≡ (D.view disk.old).faults }
     ensures quiet { OnOk result ((D.view disk.new).faults ≡ (D.view disk.old).faults) }
@@ -99,6 +101,9 @@ pub fn open_index<D: Disk>(
     requires { records ≤ 2 ^ 57 }
     ensures journal { IfOk result (λ pair. (pair.0.file ≡ names.Index 0) × (pair.0.limit ≡ records) × (pair.0.sure ≡ true)) }
     ensures prepared { Tells (D.view disk.old) → IfOk result (λ pair. IsPrepared records (D.view disk.old) (D.view disk.new) pair.0 pair.1) }
+    ensures index_read { Tells (D.view disk.old) → IfOk result (λ pair. HasIndex records (D.view disk.new).files pair.1
+        × (pair.0.count ≡ length (bodies_of (bytes_of ((D.view disk.new).files (names.Index 0)))))) }
+    ensures short { IfOk result (λ pair. end_of pair.1.entries < 2 ^ 63) }
     ensures damaged { Tells (D.view disk.old) → IsErrOf result OpenFault.Damaged → IsBlamed records (D.view disk.old).files (names.Index 0) }
 
     // At each moment each image stands for what the files stood for, where nothing waited for a sync.
@@ -109,6 +114,20 @@ pub fn open_index<D: Disk>(
     ensures synced { (history : List Push) → Tells (D.view disk.old) → StandFor records (D.view disk.old).files history
         → IsSome ((D.view disk.old).files (names.Index 0)) ⊎ IsDurable (names.Index 0) (D.view disk.old)
         → IfOk result (λ pair. (mid : D) × IsSynced (D.view disk.old) (D.view mid) × Leads (λ before image. StandFor records image history) (D.view mid) (D.view disk.new)) }
+
+    // Whatever the answer, at each moment each image is one of before, or stands for the history.
+    ensures stands_on { (history : List Push) → Tells (D.view disk.old) → StandFor records (D.view disk.old).files history
+        → IsSome ((D.view disk.old).files (names.Index 0)) ⊎ IsDurable (names.Index 0) (D.view disk.old)
+        → Leads (SameOrStand records history) (D.view disk.old) (D.view disk.new) }
+
+    // From there on the index file stands for the bodies that it stood for, whatever the files stand for.
+    ensures same_bodies { Tells (D.view disk.old) → IsSome ((D.view disk.old).files (names.Index 0)) ⊎ IsDurable (names.Index 0) (D.view disk.old)
+        → IfOk result (λ pair. (mid : D) × IsSynced (D.view disk.old) (D.view mid) × Leads (Touches (names.Index 0) SameBodies) (D.view mid) (D.view disk.new)) }
+    ensures same_bodies_damaged { Tells (D.view disk.old) → IsSome ((D.view disk.old).files (names.Index 0)) ⊎ IsDurable (names.Index 0) (D.view disk.old)
+        → IsErrOf result OpenFault.Damaged → (mid : D) × IsSynced (D.view disk.old) (D.view mid) × Leads (Touches (names.Index 0) SameBodies) (D.view mid) (D.view disk.new) }
+
+    // Where the index file is on the disk, that is so at each moment, whatever the answer.
+    ensures bodies_stay { Tells (D.view disk.old) → IsDurable (names.Index 0) (D.view disk.old) → Leads (Touches (names.Index 0) SameBodies) (D.view disk.old) (D.view disk.new) }
 
     // It touches no file but the index file.
     ensures touches { Leads (λ before image. (file : FileId) → file ≢ names.Index 0 → image file ≡ before file) (D.view disk.old) (D.view disk.new) }

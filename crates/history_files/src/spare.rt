@@ -1,9 +1,9 @@
 // Objects that are no entry's.
 ghost use Rattle.std.specs.Prelude.{◌≡◌, ◌<◌, ◌≤◌, ℕ, true, None, OnOk, OnErr, IsErrOf, MatchBool};
 ghost use Rattle.std.specs.List.{All};
-ghost use Rattle.disk_trait.specs.Disk.{Tells, Rose, GoesOn, Leads, Touches, MaybeGone, Removed};
+ghost use Rattle.disk_trait.specs.Disk.{Tells, Rose, GoesOn, Leads, Looks, Touches, MaybeGone, Removed};
 ghost use Rattle.disk_trait.specs.declared.disk.FileId.TheVariants.{Object};
-ghost use Rattle.history_files.specs.Standing.{Spares, NoneFrom, Fewer, KeepsLive, is_spare, is_spare_file};
+ghost use Rattle.history_files.specs.Standing.{Spares, NoneFrom, Fewer, KeepsLive, LosesSpares, is_spare, is_spare_file};
 
 use crate::fault::FilesFault;
 use disk_trait::{Disk, DiskError, Failed, FileId};
@@ -53,9 +53,12 @@ pub fn remove_spares<D: Disk>(
     // The entries' objects, and each file that is no object, stay at each moment, also where a call fails.
     ensures others { Leads (KeepsLive entries.now) (D.view disk.old) (D.view disk.new) }
     ensures others_read { Tells (D.view disk.old) → OnOk result (KeepsLive entries.now (D.view disk.old).files (D.view disk.new).files) }
+    // Nothing else goes, and no file comes.
+    ensures loses { Leads (LosesSpares entries.now) (D.view disk.old) (D.view disk.new) }
     ensures none { (next : ℕ) → Tells (D.view disk.old) → All (λ entry. entry.id < next) entries.now → OnOk result (NoneFrom next (D.view disk.new).files) }
     ensures failed { IsErrOf result FilesFault.Disk → Rose (D.view disk.old).faults (D.view disk.new).faults }
     ensures memory { IsErrOf result FilesFault.Memory → (D.view disk.new).faults ≡ (D.view disk.old).faults }
+    ensures memory_looks { IsErrOf result FilesFault.Memory → Looks (D.view disk.old) (D.view disk.new) }
     ensures quiet { OnOk result ((D.view disk.new).faults ≡ (D.view disk.old).faults) }
     ensures goes_on { GoesOn (D.view disk.old) (D.view disk.new) }
 {

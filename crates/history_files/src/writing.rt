@@ -74,10 +74,9 @@ pub fn commit<D: Disk>(
     ensures file { journal.new.file ≡ journal.old.file }
     ensures limit { journal.new.limit ≡ journal.old.limit }
 
-    // No other file changes at any moment.
-    ensures others_at_each_moment { Tells (D.view disk.old)
-        → Leads (λ before image. (file : FileId) → file ≢ Object entry.now.id → file ≢ journal.old.file → image file ≡ before file) (D.view disk.old) (D.view disk.new) }
-    // Where the object fails, nothing but its own file does, also on a disk that doesn't tell.
+    // No other file changes at any moment, also on a disk that doesn't tell.
+    ensures others_at_each_moment { Leads (λ before image. (file : FileId) → file ≢ Object entry.now.id → file ≢ journal.old.file → image file ≡ before file) (D.view disk.old) (D.view disk.new) }
+    // Where the object fails, nothing but its own file does.
     ensures others_at_object { IsErrOf result CommitFault.Object
         → Leads (λ before image. (file : FileId) → file ≢ Object entry.now.id → image file ≡ before file) (D.view disk.old) (D.view disk.new) }
 

@@ -5,7 +5,7 @@ use Rattle.faults.specs.declared.refused.Refused.TheVariants.{Fault}
 use Rattle.disk_trait.proofs.Steps.{looks_again}
 use Rattle.gate_journal.specs.Slots.{bodies_of}
 use Rattle.gate_journal.specs.Journal.{list_of}
-use Rattle.history_files.proofs.IndexLemmas.{lists_unread, lists_refused, lists_more, not_a_run}
+use Rattle.history_files.proofs.IndexLemmas.{lists_unread, lists_refused, ends_short, lists_more, not_a_run}
 use Rattle.history_files.proofs.open.read_index.Goals as goal
 
 pub returns-in_default-clause-told : goal.returns-in_default-clause-told
@@ -37,6 +37,7 @@ loop-i-preserved g c =
       faults = c.in_ok-body.ensures.quiet ∙ i.faults;
       looks = looks_again i.looks c.body.ensures.looks;
       opened = λ t. let t-mid : Tells mid = i.goes_on.honest ∙ t in c.body.ensures.opened t-mid;
+      short = ends_short c.loop-i.index.entries c.in-Some.entry c.apply.new.self.entries c.in-Ok.ensures.ok.1 i.short c.in-Some.ensures.bounded;
       so_far = λ t.
           let t-mid : Tells mid = i.goes_on.honest ∙ t in
           let here : slice_get list c.loop-i.i ≡ Some c.in_ok-body.body = ap (λ (f : Files). slice_get (take c.args.journal.now.count (bodies_of (bytes_of (f c.args.journal.now.file)))) c.loop-i.i) (sym i.looks.files) ∙ c.in_ok-body.ensures.told t-mid in

@@ -1,6 +1,6 @@
 use Rattle.std.proofs.Common.{sym, ◌∙◌, ap, subst, arith, inl, refl}
 use Rattle.disk_trait.specs.Disk.{Tells, Files, Lists}
-use Rattle.history_files.proofs.SpareLemmas.{spares_again, spares_step, spares_look, fewer_step, gone_step, gone_again, seen_more, spare_gone, none_left, live_look, live_again, live_step, live_read}
+use Rattle.history_files.proofs.SpareLemmas.{spares_again, spares_step, spares_look, fewer_step, gone_step, gone_again, seen_more, spare_gone, none_left, live_look, live_again, live_step, live_read, loses_look, loses_again, loses_step}
 use Rattle.history_files.proofs.spare.remove_spares.Goals as goal
 
 pub returns-in-Err-Memory-clause-spares : goal.returns-in-Err-Memory-clause-spares
@@ -17,6 +17,7 @@ loop-name-init g c = record {
   faults = c.in-Ok.ensures.quiet;
   spares = λ t. spares_look (g.D.Disk.view c.args.disk.now) (g.D.Disk.view c.files.new.self) _ (c.files.ensures.goes_on.honest ∙ t) c.files.ensures.looks.stays;
   others = live_look _ c.files.ensures.looks.stays;
+  loses = loses_look _ c.files.ensures.looks.stays;
   others_read = λ t file live. ap (λ (f : Files). f file) c.files.ensures.looks.files;
   fewer = λ t file. inl (ap (λ (f : Files). f file) c.files.ensures.looks.files);
   seen = λ t k file below at spare. absurd (omega (arith, below));
@@ -42,6 +43,7 @@ loop-name-preserved g c =
           spares_again _ mid new c.args.entries.now (i.spares t)
           (spares_step g.D.Disk.view c.loop-name.disk c.remove_spare.new.disk c.args.entries.now _ (c.remove_spare.ensures.goes_on.honest ∙ t-mid) c.remove_spare.ensures.step);
       others = live_again c.args.entries.now i.others (live_step c.args.entries.now g.D.Disk.view c.loop-name.disk c.remove_spare.new.disk _ c.remove_spare.ensures.step);
+      loses = loses_again c.args.entries.now i.loses (loses_step c.args.entries.now g.D.Disk.view c.loop-name.disk c.remove_spare.new.disk _ c.remove_spare.ensures.step);
       others_read = λ t file live. let t-mid : Tells mid = i.goes_on.honest ∙ t in
           live_read c.args.entries.now g.D.Disk.view c.loop-name.disk c.remove_spare.new.disk _ (c.in_ok-remove_spare.ensures.told t-mid) file live ∙ i.others_read t file live;
       fewer = λ t file. let t-mid : Tells mid = i.goes_on.honest ∙ t in
@@ -76,3 +78,13 @@ returns-in-Err-Failed-clause-others g c = live_look _ c.files.ensures.looks.stay
 pub returns-in_err-remove_spare-clause-others : goal.returns-in_err-remove_spare-clause-others
 returns-in_err-remove_spare-clause-others g c =
     live_again c.args.entries.now c.loop-name.invariant.others (live_step c.args.entries.now g.D.Disk.view c.loop-name.disk c.remove_spare.new.disk _ c.remove_spare.ensures.step)
+
+pub returns-in-Err-Memory-clause-loses : goal.returns-in-Err-Memory-clause-loses
+returns-in-Err-Memory-clause-loses g c = loses_look _ c.files.ensures.looks.stays
+
+pub returns-in-Err-Failed-clause-loses : goal.returns-in-Err-Failed-clause-loses
+returns-in-Err-Failed-clause-loses g c = loses_look _ c.files.ensures.looks.stays
+
+pub returns-in_err-remove_spare-clause-loses : goal.returns-in_err-remove_spare-clause-loses
+returns-in_err-remove_spare-clause-loses g c =
+    loses_again c.args.entries.now c.loop-name.invariant.loses (loses_step c.args.entries.now g.D.Disk.view c.loop-name.disk c.remove_spare.new.disk _ c.remove_spare.ensures.step)

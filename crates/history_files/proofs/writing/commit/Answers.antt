@@ -50,7 +50,7 @@ returns-in-Err-Disk-clause-append g c index later history added t it _ =
     _ (ap (λ (j : JournalView). j.file) is) (ap (λ (j : JournalView). j.limit) is) (ap (λ (j : JournalView). j.count) is) done.0 done.1
 
 pub returns-in_err-write_through-clause-others_at_each_moment : goal.returns-in_err-write_through-clause-others_at_each_moment
-returns-in_err-write_through-clause-others_at_each_moment g c t =
+returns-in_err-write_through-clause-others_at_each_moment g c =
     widen c.write_through.ensures.leads (λ before image left touch file differs differs_too. touch.others file differs)
 
 pub returns-in_err-write_through-clause-others_at_object : goal.returns-in_err-write_through-clause-others_at_object
@@ -58,9 +58,7 @@ returns-in_err-write_through-clause-others_at_object g c is =
     widen c.write_through.ensures.leads (λ before image left touch file differs. touch.others file differs)
 
 pub returns-in-Ok-clause-others_at_each_moment : goal.returns-in-Ok-clause-others_at_each_moment
-returns-in-Ok-clause-others_at_each_moment g c t =
-    besides_both _ _ c.write_through.ensures.leads (c.append.ensures.any_moment (c.write_through.ensures.goes_on.honest ∙ t))
+returns-in-Ok-clause-others_at_each_moment g c = besides_both _ _ c.write_through.ensures.leads c.append.ensures.touches
 
 pub returns-in-Err-Disk-clause-others_at_each_moment : goal.returns-in-Err-Disk-clause-others_at_each_moment
-returns-in-Err-Disk-clause-others_at_each_moment g c t =
-    besides_both _ _ c.write_through.ensures.leads (c.append.ensures.any_moment (c.write_through.ensures.goes_on.honest ∙ t))
+returns-in-Err-Disk-clause-others_at_each_moment g c = besides_both _ _ c.write_through.ensures.leads c.append.ensures.touches

@@ -1,19 +1,20 @@
 -- What it makes of a store that pushes are to be kept.
-use Rattle.std.proofs.Common.{◌≡◌, ◌⊎◌, inl, inr, ⊎_elim, ℕ, ◌+◌, ◌<◌, ◌≤◌, List, [], ◌++◌, length, Bool, true, false, Option, Some, None, refl, sym, ◌∙◌, ap, subst, arith}
-use Rattle.std.specs.Prelude.{Contains, is_none}
+use Rattle.std.proofs.Common.{◌≡◌, ◌⊎◌, inl, inr, ⊎_elim, ℕ, ◌+◌, ◌<◌, ◌≤◌, ◌^◌, List, [], ◌++◌, length, Bool, true, false, Option, Some, None, refl, sym, ◌∙◌, ap, subst, arith}
+use Rattle.std.specs.Prelude.{Contains, IfSome, is_none}
 use Rattle.std.proofs.lemmas.Bool.{false≢true}
 use Rattle.disk_trait.specs.Disk.{Files, DiskView, GoesOn, Leads, Rose, Tells}
 use Rattle.gate_journal.specs.Journal.{JournalView}
 use Rattle.metastore_index.specs.declared.entry.Entry.{Entry}
-use Rattle.metastore_index.specs.Entries.{IndexView, IsTaken}
+use Rattle.metastore_index.specs.Entries.{IndexView, IsTaken, end_of}
 use Rattle.profile_model.specs.declared.push.Push.{Push}
 use Rattle.tenant_books.specs.Books.{AreBooksOf, BooksView}
 use Rattle.history_files.specs.History.{AreHeld, StandFor}
 use Rattle.history_files.specs.Keeps.{Keeping, StandForEither, Start, most_pushes}
 use Rattle.history_files.proofs.KeepLemmas.{was_doubted, was_kept}
 use Rattle.history_files.proofs.RestLemmas.{rests_stand}
-use Rattle.store_core.specs.Store.{FlightView, HasHistory, Invariant, IsKeeping, IsKept, StandsWith, StoreView, in_flight}
+use Rattle.store_core.specs.Store.{FlightView, HasHistory, Invariant, IsBehind, IsKeeping, IsKept, StandsWith, StoreView, in_flight}
 use Rattle.store_core.specs.Changes.{CanPut, IsAdded, IsNotAdded}
+use Rattle.store_core.proofs.IndexLemmas.{short_made}
 use Rattle.store_core.proofs.KeptLemmas.{kept_at, kept_reads}
 use Rattle.store_core.proofs.RoomLemmas.{kept_made, roomy}
 
@@ -27,9 +28,9 @@ module _ {D : Type 0} (old new : DiskView) (before after : StoreView D) (history
     leads = leads;
     keeps = λ start flights was. record {
       has = has;
-      keeping = subst (λ (n : ℕ). Keeping n start (λ flight. Contains flights flight) new (history ++ pushes) (in_flight after.flight)) (sym records)
-          (subst (λ (l : List Push). Keeping before.records start (λ flight. Contains flights flight) new (history ++ pushes) l) (sym (ap in_flight none))
-          (was_kept before.records start (λ flight. Contains flights flight) old new history (in_flight before.flight) was.keeping goes pushes leads));
+      keeping = subst (λ (n : ℕ). Keeping n start (λ past flight. Contains flights (past, flight)) new (history ++ pushes) (in_flight after.flight)) (sym records)
+          (subst (λ (l : List Push). Keeping before.records start (λ past flight. Contains flights (past, flight)) new (history ++ pushes) l) (sym (ap in_flight none))
+          (was_kept before.records start (λ past flight. Contains flights (past, flight)) old new history (in_flight before.flight) was.keeping goes pushes leads));
     };
   }
 
@@ -41,8 +42,8 @@ module _ {D : Type 0} (old new : DiskView) (before after : StoreView D) (history
     leads = leads;
     keeps = λ start flights among was. record {
       has = has;
-      keeping = subst (λ (n : ℕ). Keeping n start (λ flight. Contains flights flight) new history (in_flight after.flight)) (sym records)
-          (was_doubted before.records start (λ flight. Contains flights flight) old new history (in_flight before.flight) was.keeping goes pushes leads among rise (in_flight after.flight) flight);
+      keeping = subst (λ (n : ℕ). Keeping n start (λ past flight. Contains flights (past, flight)) new history (in_flight after.flight)) (sym records)
+          (was_doubted before.records start (λ past flight. Contains flights (past, flight)) old new history (in_flight before.flight) was.keeping goes pushes leads among rise (in_flight after.flight) flight);
     };
   }
 
@@ -78,6 +79,8 @@ module _ {D : Type 0} (old : DiskView) (journal : JournalView) (before : StoreVi
     journal_sure = it.journal_sure;
     settled = it.settled;
     few = it.few;
+    short = short_made before.index made same it.short;
+    behind = subst (λ (i : IndexView). IfSome before.flight (IsBehind i.entries)) (sym same) it.behind;
     bound = it.bound;
     told = λ t. let kept = it.told t in (kept.0, kept_made old journal before.index made same kept.0 before.flight books room sure kept.1 (booked kept.0 kept.1.booked));
   }
@@ -90,14 +93,17 @@ module _ {D : Type 0} (old : DiskView) (journal : JournalView) (before : StoreVi
     kept_of_old history tells held = (sure_kept history (kept_at old journal before.index before.flight books sure before.records it history tells held), made_can entry bytes history pushes (can history tells held))
 
     pub put_invariant : (flight : Option FlightView) (after_sure : Bool) → done.sure ≡ is_none flight → (after_sure ≡ true → flight ≡ None) → length (in_flight flight) ≤ most_pushes
+        → end_of later.entries < 2 ^ 63 → IfSome flight (IsBehind later.entries)
         → ((history : List Push) → Tells old → IsKept old journal made None room true history → CanPut made entry bytes history pushes → (next : List Push) × IsKept new done later flight took after_sure next)
         → Invariant new done later flight took after_sure before.records
-    put_invariant flight after_sure journal_sure settled few becomes = record {
+    put_invariant flight after_sure journal_sure settled few short behind becomes = record {
       file = file ∙ it.file;
       limit = limit ∙ it.limit;
       journal_sure = journal_sure;
       settled = settled;
       few = few;
+      short = short;
+      behind = behind;
       bound = it.bound;
       told = λ t.
           let t-old : Tells old = sym goes.honest ∙ t in

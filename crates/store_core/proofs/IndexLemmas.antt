@@ -1,9 +1,15 @@
 -- What comes to a store's index.
-use Rattle.std.proofs.Common.{◌≡◌, ◌⊎◌, inl, inr, ⊎_elim, ℕ, ◌+◌, List, Some, Option, refl, sym, ◌∙◌, ap, subst, arith}
+use Rattle.std.proofs.Common.{◌≡◌, ◌⊎◌, inl, inr, ⊎_elim, ℕ, ◌+◌, ◌<◌, ◌^◌, List, length, Some, Option, refl, sym, ◌∙◌, ap, subst, arith}
 use Rattle.metastore_index.specs.declared.entry.Entry.{Entry}
-use Rattle.metastore_index.specs.Entries.{Becomes, IndexView, IsTaken}
-use Rattle.store_core.specs.Store.{FlightView, StoreView}
-use Rattle.store_core.specs.Changes.{HasOneMore, HasSameIndex, TakesFlight}
+use Rattle.faults.specs.declared.refused.Refused.{Refused}
+use Rattle.faults.specs.declared.refused.Refused.TheVariants.{Fault, Memory}
+use Rattle.metastore_index.specs.declared.fault.ApplyFault.{ApplyFault}
+use Rattle.metastore_index.specs.declared.fault.ApplyFault.TheVariants.{NotARun}
+use Rattle.metastore_index.specs.Entries.{Becomes, IndexView, IsTaken, end_of}
+use Rattle.metastore_index.proofs.EndLemmas.{end_moves}
+use Rattle.profile_model.specs.declared.push.Push.{Push}
+use Rattle.store_core.specs.Store.{FlightView, IsBehind, StoreView}
+use Rattle.store_core.specs.Changes.{HasOneMore, HasSameIndex, IsNextEntry, TakesFlight}
 use Rattle.store_core.proofs.RoomLemmas.{roomy}
 
 pub same_index : {D : Type 0} (before after : StoreView D) → after.index ≡ before.index → after.count ≡ before.count → HasSameIndex before after
@@ -52,3 +58,32 @@ takes_of before after flight there took = ⊎_elim
 -- an entry that is taken is so with more room
 pub taken_room : (index made : IndexView) → made ≡ roomy index made.spare → (entry : Entry) → IsTaken index entry → IsTaken made entry
 taken_room index made same entry taken = subst (λ (i : IndexView). IsTaken i entry) (sym same) (record { later = taken.later; bounded = taken.bounded; fits = taken.fits })
+
+-- ---- where the pushes end
+
+-- behind an entry that follows them
+pub ends_behind : (entries next : List Entry) (flight : FlightView) → IsBehind entries flight → Becomes entries flight.entry next → end_of next ≡ end_of entries + length flight.pushes
+ends_behind entries next flight behind becomes =
+    omega (arith, ((end_moves entries flight.entry next becomes).0 behind.level).1, behind.until, behind.from)
+
+pub ends_short : (entries next : List Entry) (flight : FlightView) → IsBehind entries flight → Becomes entries flight.entry next → end_of next < 2 ^ 63
+ends_short entries next flight behind becomes =
+    omega (arith, ((end_moves entries flight.entry next becomes).0 behind.level).1, behind.short)
+
+pub ends_next : {D : Type 0} (before after : StoreView D) (pushes : List Push) (entry : Entry) → IsNextEntry before pushes entry → HasOneMore before after entry
+    → end_of after.index.entries ≡ end_of before.index.entries + length pushes
+ends_next before after pushes entry next more =
+    omega (arith, ((end_moves before.index.entries entry after.index.entries more.becomes).0 next.level).1, next.until)
+
+-- where room was made
+module _ (index made : IndexView) (same : made ≡ roomy index made.spare) where
+  pub short_made : end_of index.entries < 2 ^ 63 → end_of made.entries < 2 ^ 63
+  short_made short = subst (λ (i : IndexView). end_of i.entries < 2 ^ 63) (sym same) short
+
+  pub behind_made : (flight : FlightView) → IsBehind index.entries flight → IsBehind made.entries flight
+  behind_made flight behind = subst (λ (i : IndexView). IsBehind i.entries flight) (sym same) behind
+
+-- no fault is left, where an entry is taken and there is room for it
+pub never_refused : (fault : Refused ApplyFault) → (fault ≡ Fault NotARun → ⊥) → (fault ≡ Memory → ⊥) → ⊥
+never_refused (Fault NotARun) refused memory = refused refl
+never_refused Memory refused memory = memory refl

@@ -1,16 +1,19 @@
 -- What a store keeps.
 use Rattle.std.proofs.Common.{◌≡◌, ◌⊎◌, inl, inr, ⊎_elim, ℕ, ◌≤◌, List, [], ◌++◌, length, Bool, true, false, Option, Some, None, refl, sym, ◌∙◌, ap, subst, arith, append-nil}
 use Rattle.std.specs.Prelude.{MatchOption}
-use Rattle.disk_trait.specs.Disk.{Files, DiskView, Tells}
+use Rattle.disk_trait.specs.declared.disk.FileId.TheVariants.{Index}
+use Rattle.disk_trait.specs.Disk.{Files, DiskView, Tells, bytes_of}
 use Rattle.gate_journal.specs.Journal.{JournalView, list_of}
+use Rattle.gate_journal.specs.Slots.{bodies_of}
 use Rattle.metastore_index.specs.Entries.{IndexView, end_of}
 use Rattle.profile_model.specs.declared.push.Push.{Push}
 use Rattle.push_history.specs.History.{front_of}
 use Rattle.tenant_books.specs.Books.{BooksView, standing_in}
-use Rattle.history_files.specs.History.{AreHeld, StandFor}
+use Rattle.history_files.specs.History.{AreHeld, HasIndex, StandFor}
 use Rattle.history_files.specs.Keeps.{StandForEither}
 use Rattle.history_files.specs.Standing.{Holds, IsAtRest, IsInFlight}
 use Rattle.history_files.proofs.HeldLemmas.{held_once, length_held}
+use Rattle.history_files.proofs.OpenLemmas.{index_reads}
 use Rattle.history_files.proofs.RestLemmas.{flies_stand, rests_read, rests_stand}
 use Rattle.history_files.proofs.StandLemmas.{lists_divide}
 use Rattle.store_core.specs.Store.{FlightView, Invariant, IsKept, StandsWith, in_flight}
@@ -51,3 +54,10 @@ module _ (disk : DiskView) (journal : JournalView) (index : IndexView) (flight :
         by_flight : (f : Option FlightView) → StandsWith disk journal index f history → StandForEither records history (history ++ in_flight f) image
         by_flight None state = inl (subst (λ (n : ℕ). StandFor n image history) it.limit (rests_stand disk journal index history state image left))
         by_flight (Some f) state = subst (λ (n : ℕ). StandForEither n history (history ++ f.pushes) image) it.limit (flies_stand disk journal index f.entry history f.pushes state image left)
+
+    -- with nothing in the air its index is what the index file lists
+    pub index_as : Tells disk → flight ≡ None → HasIndex records disk.files index × (journal.count ≡ length (bodies_of (bytes_of (disk.files (Index 0)))))
+    index_as tells none =
+        let kept = it.told tells in
+        let rest : IsAtRest disk journal index kept.0 = subst (λ (o : Option FlightView). StandsWith disk journal index o kept.0) none kept.1.state in
+        index_reads records disk journal index it.file it.limit rest.holds.within rest.holds.lists rest.settled

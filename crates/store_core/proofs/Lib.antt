@@ -2,8 +2,8 @@ pub mod KeptLemmas
 pub mod RoomLemmas
 pub mod PartLemmas
 pub mod StoreLemmas
-pub mod AddLemmas
 pub mod IndexLemmas
+pub mod AddLemmas
 pub mod OtherLemmas
 pub mod OpenLemmas
 pub mod ReadLemmas

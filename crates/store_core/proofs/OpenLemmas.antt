@@ -1,5 +1,5 @@
 -- What an opening reads.
-use Rattle.std.proofs.Common.{◌≡◌, inl, ℕ, zero, suc, ◌+◌, ◌^◌, ◌<◌, ◌≤◌, List, [], ◌∷◌, ◌++◌, length, get_or, take, drop, true, Option, None, Result, Err, All, length-append, refl, sym, ◌∙◌, ap, subst, arith}
+use Rattle.std.proofs.Common.{◌≡◌, ◌≢◌, inl, inr, ℕ, zero, suc, ◌+◌, ◌^◌, ◌<◌, ◌≤◌, List, [], ◌∷◌, ◌++◌, length, get_or, take, drop, true, false, Option, None, Result, Err, All, length-append, refl, sym, ◌∙◌, ap, subst, arith}
 use Rattle.std.proofs.lemmas.List.{take-append-drop, take_more}
 use Rattle.disk_trait.specs.declared.disk.FileId.{FileId}
 use Rattle.disk_trait.specs.declared.disk.FileId.TheVariants.{Index, Object}
@@ -16,19 +16,20 @@ use Rattle.metastore_index.proofs.DivideLemmas.{DivideFrom-first, end_from, end_
 use Rattle.profile_model.specs.declared.push.Push.{Push}
 use Rattle.push_history.specs.History.{HasBoundedTotals}
 use Rattle.tenant_books.specs.Books.{BooksView}
-use Rattle.history_files.specs.History.{AreHeld, IsBlamed, IsObjectOf, StandFor}
+use Rattle.history_files.specs.History.{AreHeld, HasIndex, IsBlamed, IsObjectOf, StandFor}
 use Rattle.history_files.specs.History.IsBlamed.{object as blames_object}
 use Rattle.history_files.specs.Keeps.{Keeping, start_at}
-use Rattle.history_files.specs.Standing.{IsAtRest, IsPrepared, NoneFrom, Spares, StandAlike}
+use Rattle.history_files.specs.Standing.{IsAtRest, IsPrepared, KeepsLive, NoneFrom, SameOrStand, Spares, StandAlike, is_spare_file}
 use Rattle.history_files.proofs.HeldLemmas.{held_alike, held_append, held_one, length_held, one_object}
 use Rattle.history_files.proofs.KeepLemmas.{keeps_begun}
-use Rattle.history_files.proofs.OpenLemmas.{prepared_rests, prepared_stands}
+use Rattle.history_files.proofs.OpenLemmas.{index_reads, prepared_rests, prepared_stands}
 use Rattle.history_files.proofs.RestLemmas.{rests_stand, rests_still}
-use Rattle.history_files.proofs.StandLemmas.{lists_divide, lists_ids, not_index, stand_once}
+use Rattle.history_files.proofs.StandLemmas.{lists_divide, lists_ids, lists_once, not_index, stand_once}
 use Rattle.store_core.specs.declared.fault.OpenCause.{OpenCause}
 use Rattle.store_core.specs.declared.fault.OpenCause.TheVariants.{Damaged}
 use Rattle.store_core.specs.Opening.{AreCounted, IsRead, StopsAt}
 use Rattle.store_core.proofs.KeptLemmas.{kept_reads}
+use Rattle.store_core.proofs.OtherLemmas.{live_cleared}
 use Rattle.store_core.proofs.RoomLemmas.{lists_short}
 use Rattle.store_core.proofs.StoreLemmas.{ids_below}
 
@@ -130,6 +131,17 @@ module _ (records : ℕ) (old mid : DiskView) (journal : JournalView) (index : I
   pub ids_next : All (λ (entry : Entry). entry.id < index.greatest + 1) entries
   ids_next = ids_below index.greatest index.entries entries same (lists_ids (bodies_of (bytes_of (old.files (Index 0)))) index it.has.lists)
 
+  -- it is the one index of what the files were
+  pub same_entries : (other : IndexView) → HasIndex records old.files other → entries ≡ other.entries
+  same_entries other has = same ∙ lists_once (bodies_of (bytes_of (old.files (Index 0)))) index other it.has.lists has.lists
+
+  -- a fault of the disk while they were cleared of spares
+  pub spares_failed : (look new : DiskView) → Leads (λ before image. (one : FileId) → one ≢ Index 0 → image one ≡ before one) old mid → Looks mid look → Leads (KeepsLive entries) look new
+      → (other : IndexView) → HasIndex records old.files other → Leads (λ before image. (one : FileId) → one ≢ Index 0 → is_spare_file one other.entries ≡ false → image one ≡ before one) old new
+  spares_failed look new touches looks cleared other has =
+      subst (λ (es : List Entry). Leads (λ before image. (one : FileId) → one ≢ Index 0 → is_spare_file one es ≡ false → image one ≡ before one) old new) (same_entries other has)
+      (live_cleared entries old look new (stays_after touches looks.stays) cleared)
+
   module _ (books : BooksView) (count : AreEntries entries → end_of entries < 2 ^ 63 → (history : List Push) × AreCounted mid.files entries books history) where
     abbrev history : List Push
     history = (count entries_are entries_short).0
@@ -142,6 +154,10 @@ module _ (records : ℕ) (old mid : DiskView) (journal : JournalView) (index : I
 
     stood : StandFor records old.files history
     stood = prepared_stands records old mid journal index history it reads counted.totals
+
+    -- where they stood for none it wasn't read
+    pub not_nothing : {P : Type 0} → ((other : List Push) → ¬ (StandFor records old.files other)) → P
+    not_nothing none = absurd (none history stood)
 
     -- an image that stands for the history stands for what the files stood for
     stand_still : (image : Files) → StandFor records image history → StandAlike records old.files image
@@ -172,14 +188,23 @@ module _ (records : ℕ) (old mid : DiskView) (journal : JournalView) (index : I
           (λ before image left step. step)
           (λ before between image left first now stands. stand_still image (subst (λ (n : ℕ). StandFor n image history) it.limit stands))
 
-      -- and each since the sync, where calls did
-      pub cleared_stand : (synced : DiskView) (other : List Push) → StandFor records old.files other → Leads (λ before image. StandFor records image other) synced mid
-          → Leads (λ before image. StandFor records image other) synced new
-      cleared_stand synced other stands run = goes_on (stays_after run looks.stays) cleared.1
-          (λ before image left step. step)
-          (λ before between image left first now after.
-          subst (λ (h : List Push). StandFor records image h) (stand_once records old.files history other stood stands)
-          (subst (λ (n : ℕ). StandFor n image history) it.limit after))
+      module _ (other : List Push) (stands : StandFor records old.files other) where
+        stand_after : (image : Files) → StandFor journal.limit image history → StandFor records image other
+        stand_after image after =
+            subst (λ (h : List Push). StandFor records image h) (stand_once records old.files history other stood stands)
+            (subst (λ (n : ℕ). StandFor n image history) it.limit after)
+
+        -- each since the sync, where calls did
+        pub cleared_stand : (synced : DiskView) → Leads (λ before image. StandFor records image other) synced mid → Leads (λ before image. StandFor records image other) synced new
+        cleared_stand synced run = goes_on (stays_after run looks.stays) cleared.1
+            (λ before image left step. step)
+            (λ before between image left first now after. stand_after image after)
+
+        -- and each from the first on
+        pub cleared_on : Leads (SameOrStand records other) old mid → Leads (SameOrStand records other) old new
+        cleared_on run = goes_on (stays_after run looks.stays) cleared.1
+            (λ before image left step. step)
+            (λ before between image left first now after. inr (stand_after image after))
 
 -- ---- what was read
 
@@ -187,6 +212,10 @@ module _ (records : ℕ) (old new : DiskView) (journal : JournalView) (index : I
     (it : IsRead records old new journal index books history) (limit : journal.limit ≡ records) where
   pub read_has : Tells new → AreHeld new.files index.entries history
   read_has tells = kept_reads new journal index None books true history tells it.kept
+
+  -- it reads the index
+  pub read_reads : HasIndex records new.files index × (journal.count ≡ length (bodies_of (bytes_of (new.files (Index 0)))))
+  read_reads = index_reads records new journal index it.kept.state.holds.file limit it.kept.state.holds.within it.kept.state.holds.lists it.kept.state.settled
 
   module _ (other : List Push) (stands : StandFor records old.files other) where
     same_history : history ≡ other
@@ -202,5 +231,5 @@ module _ (records : ℕ) (old new : DiskView) (journal : JournalView) (index : I
         (subst (λ (n : ℕ). StandFor n image history) limit (rests_stand new journal index history it.kept.state image left))
 
     -- a start there keeps it
-    pub read_keeps : (IsFlight : List Push → Type 0) → Keeping records (start_at new other) IsFlight new other []
+    pub read_keeps : (IsFlight : List Push → List Push → Type 0) → Keeping records (start_at new other) IsFlight new other []
     read_keeps IsFlight = record { keeps = keeps_begun records IsFlight new other read_images; risen = inl refl }

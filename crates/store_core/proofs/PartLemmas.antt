@@ -1,16 +1,18 @@
 -- What a store's parts become.
 use Rattle.std.proofs.Common.{◌≡◌, ◌≢◌, ◌⊎◌, inl, inr, ℕ, ◌+◌, ◌<◌, ◌≤◌, List, [], ◌∷◌, ◌++◌, length, Bool, true, false, Option, Some, None, refl, sym, ◌∙◌, ap, subst, arith, append-nil}
 use Rattle.std.proofs.lemmas.Bool.{false≢true}
+use Rattle.std.proofs.lemmas.List.{length_push}
 use Rattle.disk_trait.specs.declared.disk.FileId.{FileId}
 use Rattle.disk_trait.specs.declared.disk.FileId.TheVariants.{Index, Object}
-use Rattle.disk_trait.specs.Disk.{Files, DiskView, Leads, Stays, Tells}
+use Rattle.disk_trait.specs.Disk.{Files, DiskView, Leads, Stays, Tells, bytes_of}
 use Rattle.gate_journal.specs.Journal.{JournalView, IsSettled, IsUnsettled, list_of}
+use Rattle.gate_journal.specs.Slots.{bodies_of}
 use Rattle.metastore_index.specs.declared.entry.Entry.{Entry}
 use Rattle.metastore_index.specs.Entries.{IndexView, IsTaken, Becomes}
 use Rattle.metastore_index.specs.Taken.{Takes}
 use Rattle.profile_model.specs.declared.push.Push.{Push}
 use Rattle.tenant_books.specs.Books.{AreBooksOf, BooksView}
-use Rattle.history_files.specs.History.{AreHeld, Lists}
+use Rattle.history_files.specs.History.{AreHeld, Lists, StandFor}
 use Rattle.history_files.specs.Standing.{AllHold, Commits, IsAtRest, IsInFlight, NoneFrom}
 use Rattle.history_files.proofs.RestLemmas.{decides_none, decides_some, flies_still}
 use Rattle.history_files.proofs.StandLemmas.{lists_once, lists_push, not_index}
@@ -61,6 +63,39 @@ module _ (old new : DiskView) (journal done : JournalView) (index made : IndexVi
             (ap (λ (j : JournalView). j.count) is) u.0 u.1;
         booked = booked;
         none = never (made.greatest + 1) new.files;
+      }
+
+  -- the slot reads closed: the files stand for the history
+  pub reads_against : Tells old → bodies_of (bytes_of (old.files journal.file)) ≡ list_of old journal ++ [] → StandFor journal.limit old.files history
+  reads_against tells found =
+      let is : bodies_of (bytes_of (old.files (Index 0))) ≡ list_of old journal =
+      ap (λ (f : FileId). bodies_of (bytes_of (old.files f))) (sym flies.holds.file) ∙ found ∙ append-nil (list_of old journal) in
+      record {
+        index = made;
+        has = record {
+          lists = subst (λ (bs : List (List ℕ)). Lists bs made) (sym is) flies.holds.lists;
+          few = omega (arith, ap length is, flies.unsettled.count, flies.holds.within);
+        };
+        held = flies.holds.held old.files (old.as_read tells);
+        totals = flies.holds.totals;
+      }
+
+  -- it reads open, with this body: they stand for the history with the flight behind it
+  pub reads_for : Tells old → (body : List ℕ) → bodies_of (bytes_of (old.files journal.file)) ≡ list_of old journal ++ body ∷ []
+      → ((b : List ℕ) → journal.sure ≡ false → IsUnsettled old journal b → body ≡ b) → StandFor journal.limit old.files (history ++ flight.pushes)
+  reads_for tells body found same_body =
+      let is : bodies_of (bytes_of (old.files (Index 0))) ≡ list_of old journal ++ flies.body ∷ [] =
+      ap (λ (f : FileId). bodies_of (bytes_of (old.files f))) (sym flies.holds.file) ∙ found
+      ∙ ap (λ (b : List ℕ). list_of old journal ++ b ∷ []) (same_body flies.body unsure flies.unsettled) in
+      record {
+        index = flies.later;
+        has = record {
+          lists = subst (λ (bs : List (List ℕ)). Lists bs flies.later) (sym is)
+              (lists_push (list_of old journal) flies.body made flies.later flight.entry flies.holds.lists flies.reads flies.bounded flies.takes);
+          few = omega (arith, ap length is, length_push (list_of old journal) flies.body, flies.unsettled.count, flies.room);
+        };
+        held = flies.held old.files (old.as_read tells);
+        totals = flies.totals;
       }
 
   -- It didn't.

@@ -26,6 +26,7 @@ use Rattle.history_files.proofs.StandLemmas.{lists_divide}
 use Rattle.store_core.specs.declared.fault.ReadFault.TheVariants.{Damaged}
 use Rattle.store_core.specs.Store.{FlightView, HasHistory, Invariant, IsKept, StandsWith, StoreView, in_flight}
 use Rattle.store_core.specs.Changes.{KeepsOn}
+use Rattle.history_files.proofs.SpareLemmas.{loses_look}
 use Rattle.store_core.specs.Reading.{IsHeldAt}
 use Rattle.store_core.proofs.KeptLemmas.{holds_of, images_as, kept_at, kept_reads}
 use Rattle.store_core.proofs.StoreLemmas.{is_mended, still_leads}
@@ -210,6 +211,8 @@ module _ (old new : DiskView) (journal : JournalView) (index : IndexView) (fligh
       journal_sure = it.journal_sure;
       settled = it.settled;
       few = it.few;
+      short = it.short;
+      behind = it.behind;
       bound = it.bound;
       told = λ tells. let kept = it.told (sym goes.honest ∙ tells) in (kept.0, kept_looks kept.0 tells kept.1);
     }
@@ -221,9 +224,9 @@ pub looked_keeps : {D : Type 0} (old new : DiskView) (journal : JournalView) (be
 looked_keeps {D} old new journal before after books sure looks goes it index flight records history tells held =
     let has : HasHistory new after history =
     subst (λ (i : IndexView). AreHeld new.files i.entries history) (sym index) (subst (λ (f : Files). AreHeld f before.index.entries history) (sym looks.files) held) in
-    (is_mended old new before after history history goes records (inl refl) has (inr (refl, ap in_flight flight))
+    (is_mended old new before after history history goes records (inl refl) has (inr (refl, flight))
     (still_leads old new (λ image. StandForEither before.records history (history ++ in_flight before.flight) image)
-    (images_as old journal before.index before.flight books sure before.records it history tells held) looks.stays)).keeps
+    (images_as old journal before.index before.flight books sure before.records it history tells held) looks.stays) (loses_look after.index.entries looks.stays)).keeps
 
 -- ---- the entry that covers a push
 

@@ -1,10 +1,10 @@
 -- What becomes of pushes that ask a store to keep them, after a mend.
-use Rattle.std.proofs.Common.{◌≡◌, ◌≢◌, inl, inr, ⊎_elim, ℕ, ◌+◌, ◌^◌, ◌<◌, ◌≤◌, List, [], ◌++◌, length, Bool, true, false, Option, Some, None, Result, Ok, Err, refl, sym, ◌∙◌, ap, subst, arith, append-nil, length-append}
+use Rattle.std.proofs.Common.{◌≡◌, ◌≢◌, ◌⊎◌, inl, inr, ⊎_elim, ℕ, ◌+◌, ◌^◌, ◌<◌, ◌≤◌, List, [], ◌++◌, length, Bool, true, false, Option, Some, None, Result, Ok, Err, refl, sym, ◌∙◌, ap, subst, arith, append-nil, length-append}
 use Rattle.std.proofs.Common.{Vec, Global}
-use Rattle.std.specs.Prelude.{IfOk, IsErrOf, OnOk}
+use Rattle.std.specs.Prelude.{IfOk, IsErrOf, OnErr, OnOk}
 use Rattle.store_core.specs.declared.fault.SettleFault.TheVariants.{Full}
-use Rattle.std.proofs.lemmas.Bool.{false≢true}
-use Rattle.disk_trait.specs.Disk.{DiskView, Files, Tells}
+use Rattle.std.proofs.lemmas.Bool.{cases_lt, false≢true}
+use Rattle.disk_trait.specs.Disk.{DiskView, Files, Leads, Tells}
 use Rattle.disk_trait.proofs.Steps.{still}
 use Rattle.gate_journal.specs.Journal.{JournalView}
 use Rattle.metastore_index.specs.Entries.{end_of}
@@ -26,11 +26,12 @@ use Rattle.history_files.specs.Keeps.{most_pushes}
 use Rattle.history_files.specs.Standing.{Describes}
 use Rattle.history_files.proofs.HeldLemmas.{push_turns}
 use Rattle.history_files.proofs.ObjectLemmas.{object_is}
-use Rattle.store_core.specs.Store.{FlightView, HasHistory, HasNumbers, Invariant, IsFull, IsKept, StoreView, in_flight}
-use Rattle.store_core.specs.Changes.{CanPut, HasOneMore, HasSameIndex, IsAdded, IsMended, IsNotAdded, TakesFlight}
+use Rattle.store_core.specs.Store.{FlightView, HasHistory, HasNumbers, Invariant, IsBehind, IsFull, IsKept, StoreView, in_flight}
+use Rattle.store_core.specs.Changes.{CanPut, FliesNext, HasNoSpares, HasOneMore, HasSameIndex, IsAdded, IsMended, IsNextEntry, IsNotAdded, LeavesAllBut, TakesFlight}
 use Rattle.store_core.specs.Settling.{FirstMended, IsDoubted, IsFullFor, IsSettled}
 use Rattle.store_core.proofs.KeptLemmas.{holds_of, images_as, kept_at, kept_long}
 use Rattle.store_core.proofs.AddLemmas.{is_added}
+use Rattle.store_core.proofs.OtherLemmas.{leaves_still}
 use Rattle.store_core.proofs.StoreLemmas.{still_leads}
 
 -- the same store, with other room in its index
@@ -46,23 +47,26 @@ mended_spare {D} view before after last history next same it =
       has = it.has;
       flight = it.flight;
       leads = it.leads;
+      fewer = it.fewer;
       keeps = λ start flights was. let kept = it.keeps start flights was in record { has = kept.has; keeping = kept.keeping };
     })
 
 module _ {D : Type 0} (view : D → DiskView) (before between : StoreView D) (history : List Push)
-    (mended : (next : List Push) × IsMended (view before.disk) (view between.disk) before between history next) where
+    (mended : (next : List Push) × IsMended (view before.disk) (view between.disk) before between history next × StandFor before.records (view before.disk).files next) where
   pub first_mended : (Then : StoreView D → List Push → Type 0) → between.sure ≡ true → between.flight ≡ None → (before.sure ≡ true → between ≡ before) → between.records ≡ before.records
-      → between.limits ≡ before.limits → TakesFlight before between → Then between mended.0 → FirstMended view before history Then
-  first_mended Then is_sure lands at_once records limits index follows = record {
+      → between.limits ≡ before.limits → TakesFlight before between → (before.sure ≡ false → HasNoSpares (view between.disk) between) → Then between mended.0 → FirstMended view before history Then
+  first_mended Then is_sure lands at_once records limits index gone follows = record {
     between = between;
     next = mended.0;
     mended = mended.1;
+    read = mended.2;
     is_sure = is_sure;
     lands = lands;
     at_once = at_once;
     records = records;
     limits = limits;
     index = index;
+    gone = gone;
     follows = follows;
   }
 
@@ -73,6 +77,14 @@ if_ok (Err e) P Q f p = p
 pub on_ok : {A E : Type 0} (r : Result A E) (P Q : Type 0) → (P → Q) → OnOk r P → OnOk r Q
 on_ok (Ok a) P Q f p = f p
 on_ok (Err e) P Q f p = p
+
+pub on_err_weaker : {A E : Type 0} (r : Result A E) (P Q : Type 0) → (P → Q) → OnErr r P → OnErr r Q
+on_err_weaker (Ok a) P Q f p = p
+on_err_weaker (Err e) P Q f p = f p
+
+pub on_ok_any : {A E : Type 0} (r : Result A E) (P : Type 0) → P → OnOk r P
+on_ok_any (Ok a) P p = p
+on_ok_any (Err e) P p = tt
 
 -- ---- a sure store
 
@@ -113,23 +125,35 @@ module _ {D : Type 0} (view : D → DiskView) (journal : JournalView) (before : 
       pub settled_none : kept ≡ [] → IsSettled view before before history asks verdicts
       settled_none none = record {
         kept = [];
+        which = sym none ∙ is;
         judged = subst (λ (l : List Push). AreVerdicts (limit_of before.limits) history asks verdicts (history ++ l)) none judged;
         room = λ some. absurd (false≢true (sym (none_is_kept asks verdicts (verdicts_long (limit_of before.limits) history asks verdicts (history ++ kept) judged) (sym is ∙ none)) ∙ some));
         entry = inl (refl, refl);
         added = nothing_added;
+        others = λ file other object. refl;
+        others_at_each_moment = leaves_still (before.index.greatest + 1) (view before.disk);
       }
 
-      module _ (after : StoreView D) (room : before.count < before.records) where
-        not_full : ¬ (IsFull before)
-        not_full full = absurd (omega (arith, room, full))
-
+      module _ (after : StoreView D) (not_full : ¬ (IsFull before)) where
         -- those that weren't stand behind the history
-        pub settled_some : (entry : Entry) × (entry.level ≡ 0) × HasOneMore before after entry → IsAdded (view before.disk) (view after.disk) before after history kept → IsSettled view before after history asks verdicts
-        settled_some one added = record { kept = kept; judged = judged; room = λ some. not_full; entry = inr one; added = added }
+        pub settled_some : (entry : Entry) × IsNextEntry before kept entry × HasOneMore before after entry → IsAdded (view before.disk) (view after.disk) before after history kept
+            → LeavesAllBut (before.index.greatest + 1) (view before.disk).files (view after.disk).files → Leads (LeavesAllBut (before.index.greatest + 1)) (view before.disk) (view after.disk)
+            → IsSettled view before after history asks verdicts
+        settled_some one added others moments = record {
+          kept = kept;
+          which = is;
+          judged = judged;
+          room = λ some. not_full;
+          entry = inr one;
+          added = added;
+          others = others;
+          others_at_each_moment = moments;
+        }
 
         -- or may come to stand there
-        pub settled_doubt : kept ≢ [] → HasSameIndex before after → IsNotAdded (view before.disk) (view after.disk) before after history kept → IsDoubted view before after history asks
-        settled_doubt some index not_added = record {
+        pub settled_doubt : kept ≢ [] → HasSameIndex before after → IsNotAdded (view before.disk) (view after.disk) before after history kept → FliesNext before after kept
+            → Leads (LeavesAllBut (before.index.greatest + 1)) (view before.disk) (view after.disk) → IsDoubted view before after history asks
+        settled_doubt some index not_added flight moments = record {
           verdicts = verdicts;
           kept = kept;
           judged = judged;
@@ -137,6 +161,8 @@ module _ {D : Type 0} (view : D → DiskView) (journal : JournalView) (before : 
           room = not_full;
           index = index;
           not_added = not_added;
+          flight = flight;
+          others_at_each_moment = moments;
         }
           where
             some_is_kept : (asks : List PushAsk) (verdicts : List Verdict) → kept_of asks verdicts ≢ [] → is_some_kept verdicts ≡ true
@@ -165,6 +191,43 @@ module _ {D : Type 0} (view : D → DiskView) (journal : JournalView) (before : 
       totals = totals;
       short = omega (arith, length-append history object.pushes, long_now, numbers.pushes, few);
     }
+
+-- ---- what a store that isn't full has
+
+module _ {D : Type 0} (store : StoreView D) (not_full : ¬ (IsFull store)) where
+  pub has_room : store.count < store.records
+  has_room = ⊎_elim (λ less. less) (λ full. absurd (not_full (inl full))) (cases_lt store.count store.records)
+
+  pub has_numbers : HasNumbers store
+  has_numbers = record {
+    pushes = ⊎_elim (λ less. less) (λ past. absurd (not_full (inr (inr (omega (arith, past)))))) (cases_lt (end_of store.index.entries + most_pushes) (2 ^ 63));
+    object = ⊎_elim (λ less. less) (λ past. absurd (not_full (inr (inl past)))) (cases_lt (store.index.greatest + 1) (2 ^ 63));
+  }
+
+-- ---- the entry of what is put
+
+pub next_entry : {D : Type 0} (store : StoreView D) (object : ObjectView) (entry : Entry) (pushes : List Push) → object.pushes ≡ pushes → Describes entry object → entry.level ≡ 0
+    → entry.id ≡ store.index.greatest + 1 → object.lo ≡ end_of store.index.entries → IsNextEntry store pushes entry
+next_entry store object entry pushes same describes level id begins = record {
+  level = level;
+  id = id;
+  from = sym describes.from ∙ begins;
+  until = omega (arith, describes.until, begins, ap length same);
+}
+
+pub is_behind : {D : Type 0} (store : StoreView D) (object : ObjectView) (entry : Entry) (pushes : List Push) → object.pushes ≡ pushes → Describes entry object → entry.level ≡ 0
+    → object.lo ≡ end_of store.index.entries → HasNumbers store → length pushes ≤ most_pushes → IsBehind store.index.entries (record { entry = entry; pushes = pushes })
+is_behind store object entry pushes same describes level begins numbers few = record {
+  level = level;
+  from = sym describes.from ∙ begins;
+  until = omega (arith, describes.from, describes.until, ap length same);
+  short = omega (arith, describes.until, begins, ap length same, numbers.pushes, few);
+}
+
+pub flies_next : {D : Type 0} (before after : StoreView D) (entry : Entry) (put pushes : List Push) → put ≡ pushes → IsNextEntry before pushes entry
+    → (after.flight ≡ None) ⊎ (after.flight ≡ Some (record { entry = entry; pushes = put })) → FliesNext before after pushes
+flies_next before after entry put pushes same next which =
+    ⊎_elim (λ none. inl none) (λ some. inr (record { entry = entry; pushes = put }, some, same, next)) which
 
 -- ---- what a fault says
 

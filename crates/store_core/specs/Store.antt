@@ -1,5 +1,5 @@
 -- A store as contracts see it, and what it is to its disk.
-use Rattle.std.specs.Prelude.{◌≡◌, ◌⊎◌, ℕ, ◌+◌, ◌-◌, ◌^◌, ◌<◌, ◌≤◌, Bool, true, List, [], ◌++◌, length, Option, Some, None, Contains, MatchOption, is_none}
+use Rattle.std.specs.Prelude.{◌≡◌, ◌⊎◌, ℕ, ◌+◌, ◌-◌, ◌^◌, ◌<◌, ◌≤◌, Bool, true, false, List, [], ◌++◌, length, Option, Some, None, Contains, IfSome, MatchOption, is_none}
 use Rattle.disk_trait.specs.declared.disk.FileId.TheVariants.{Index}
 use Rattle.disk_trait.specs.Disk.{DiskView, Tells}
 use Rattle.gate_journal.specs.Journal.{JournalView}
@@ -44,9 +44,19 @@ HasHistory disk store history = AreHeld disk.files store.index.entries history
 abbrev pub Mends : List Push → Option FlightView → List Push → Type 0
 Mends history flight next = (next ≡ history) ⊎ (next ≡ history ++ in_flight flight)
 
+-- the pushes of a flight that came to the history, and none where it didn't
+abbrev pub given : Bool → List Push → List Push
+given true pushes = pushes
+given false pushes = []
+
+-- The index file has as many records as it may have, or the index has no number left for a further object, or none for the
+-- pushes of a settling.
+abbrev pub HasNoRoom : ℕ → ℕ → IndexView → Type 0
+HasNoRoom records count index = (records ≤ count) ⊎ ((2 ^ 63 ≤ index.greatest + 1) ⊎ (2 ^ 63 < end_of index.entries + 65))
+
 -- no further record can be taken
 abbrev pub IsFull : {D : Type 0} → StoreView D → Type 0
-IsFull store = store.records ≤ store.count
+IsFull store = HasNoRoom store.records store.count store.index
 
 -- its index has numbers for the pushes of one settling, and for their object
 pub record HasNumbers {D : Type 0} (store : StoreView D) : Type 0 where
@@ -54,10 +64,10 @@ pub record HasNumbers {D : Type 0} (store : StoreView D) : Type 0 where
   pub object : store.index.greatest + 1 < 2 ^ 63
 
 -- Since a start the store has kept its history, and no other flight was in the air than these. A flight is the pushes that a
--- settle was to keep when the disk failed.
-pub record IsKeeping {D : Type 0} (start : Start) (flights : List (List Push)) (disk : DiskView) (store : StoreView D) (history : List Push) : Type 0 where
+-- settle was to keep when the disk failed, and stands behind the history of then: each is told as that history and its pushes.
+pub record IsKeeping {D : Type 0} (start : Start) (flights : List (List Push × List Push)) (disk : DiskView) (store : StoreView D) (history : List Push) : Type 0 where
   pub has : HasHistory disk store history
-  pub keeping : Keeping store.records start (λ flight. Contains flights flight) disk history (in_flight store.flight)
+  pub keeping : Keeping store.records start (λ past flight. Contains flights (past, flight)) disk history (in_flight store.flight)
 
 -- ---- what a store keeps
 
@@ -65,6 +75,13 @@ pub record IsKeeping {D : Type 0} (start : Start) (flights : List (List Push)) (
 abbrev pub StandsWith : DiskView → JournalView → IndexView → Option FlightView → List Push → Type 0
 StandsWith disk journal index flight history =
     MatchOption flight (IsAtRest disk journal index history) (λ flight. IsInFlight disk journal index flight.entry history flight.pushes)
+
+-- the flight's entry is of level 0 and over the numbers behind those of these entries, as many as there are pushes
+pub record IsBehind (entries : List Entry) (flight : FlightView) : Type 0 where
+  pub level : flight.entry.level ≡ 0
+  pub from : flight.entry.lo ≡ end_of entries
+  pub until : flight.entry.hi ≡ flight.entry.lo + length flight.pushes
+  pub short : flight.entry.hi < 2 ^ 63
 
 -- where the disk tells
 pub record IsKept (disk : DiskView) (journal : JournalView) (index : IndexView) (flight : Option FlightView) (books : BooksView) (sure : Bool) (history : List Push) : Type 0 where
@@ -80,5 +97,7 @@ pub record Invariant (disk : DiskView) (journal : JournalView) (index : IndexVie
   pub journal_sure : journal.sure ≡ is_none flight
   pub settled : sure ≡ true → flight ≡ None
   pub few : length (in_flight flight) ≤ most_pushes
+  pub short : end_of index.entries < 2 ^ 63
+  pub behind : IfSome flight (IsBehind index.entries)
   pub bound : records ≤ 2 ^ 57
   pub told : Tells disk → (history : List Push) × IsKept disk journal index flight books sure history

@@ -11,9 +11,12 @@ mod settling;
 mod store;
 
 pub use fault::{MendFault, OpenCause, OpenRefused, ReadFault, SettleFault};
+pub use settling::Settled;
 pub use store::Store;
 
 #[cfg(test)]
 mod tests;
+#[cfg(test)]
+mod tests_faults;
 #[cfg(test)]
 mod tests_open;

@@ -1,16 +1,18 @@
 // How a store begins: by what its disk holds.
-ghost use Rattle.std.specs.Prelude.{◌≡◌, ◌≢◌, ◌⊎◌, ◌+◌, ◌^◌, ◌<◌, ◌≤◌, ◌++◌, [], List, ℕ, IfErr, IfOk, IsErrOf, IsSome, None, OnErr, OnOk, length, true};
-ghost use Rattle.disk_trait.specs.Disk.{Files, GoesOn, IsDurable, IsQuiet, Leads, Looks, Rose, Tells};
+ghost use Rattle.std.specs.Prelude.{◌≡◌, ◌≢◌, ◌⊎◌, ◌+◌, ◌^◌, ◌<◌, ◌≤◌, ◌++◌, [], List, ℕ, Contains, IfErr, IfOk, IsErrOf, IsSome, None, OnErr, OnOk, false, length, true};
+ghost use Rattle.disk_trait.specs.Disk.{Files, GoesOn, IsDurable, IsQuiet, Leads, Looks, Rose, Tells, bytes_of};
 ghost use Rattle.disk_trait.specs.declared.disk.FileId.{FileId};
 ghost use Rattle.disk_trait.specs.declared.disk.FileId.TheVariants as names;
-ghost use Rattle.metastore_index.specs.Entries.{AreEntries, end_of};
+ghost use Rattle.gate_journal.specs.Journal.{SameBodies};
+ghost use Rattle.gate_journal.specs.Slots.{bodies_of};
+ghost use Rattle.metastore_index.specs.Entries.{AreEntries, IndexView, end_of};
 ghost use Rattle.profile_model.specs.declared.push.Push.{Push};
 ghost use Rattle.push_history.specs.History.{HasBoundedTotals};
 ghost use Rattle.tenant_books.specs.Books.{AreBooksOf};
-ghost use Rattle.history_files.specs.History.{IsBlamed, IsObjectOf, StandFor};
-ghost use Rattle.history_files.specs.Keeps.{start_at};
+ghost use Rattle.history_files.specs.History.{HasIndex, IsBlamed, IsObjectOf, StandFor};
+ghost use Rattle.history_files.specs.Keeps.{Keeps, Start, start_at};
 ghost use Rattle.store_core.specs.Changes.{HasNoSpares, LeavesOthers};
-ghost use Rattle.history_files.specs.Standing.{is_spare, IsSynced, StandAlike};
+ghost use Rattle.history_files.specs.Standing.{is_spare, is_spare_file, IsSynced, SameOrStand, StandAlike};
 ghost use Rattle.store_core.specs.Opening.{AreCounted, IsRead, StopsAt};
 ghost use Rattle.store_core.specs.Store.{HasHistory, IsKeeping};
 
@@ -95,6 +97,7 @@ fn read_all<D: Disk>(
 ) -> Result<(Journal, Index, Books), OpenCause>
     requires { records ≤ 2 ^ 57 }
     ensures journal { IfOk result (λ read. (read.0.file ≡ names.Index 0) × (read.0.limit ≡ records) × (read.0.sure ≡ true)) }
+    ensures short { IfOk result (λ read. end_of read.1.entries < 2 ^ 63) }
     ensures told { Tells (D.view disk.old) → IfOk result (λ read. (history : List Push) × IsRead records (D.view disk.old) (D.view disk.new) read.0 read.1 read.2 history) }
     ensures damaged { (file : FileId) → Tells (D.view disk.old) → IsErrOf result (OpenCause.Damaged file) → IsBlamed records (D.view disk.old).files file }
     ensures any_moment { Tells (D.view disk.old) → IsQuiet (D.view disk.old)
@@ -102,9 +105,26 @@ fn read_all<D: Disk>(
     ensures synced { (history : List Push) → Tells (D.view disk.old) → StandFor records (D.view disk.old).files history
         → IsSome ((D.view disk.old).files (names.Index 0)) ⊎ IsDurable (names.Index 0) (D.view disk.old)
         → IfOk result (λ read. (synced : D) × IsSynced (D.view disk.old) (D.view synced) × Leads (λ before image. StandFor records image history) (D.view synced) (D.view disk.new)) }
+    ensures stands_on { (history : List Push) → Tells (D.view disk.old) → StandFor records (D.view disk.old).files history
+        → IsSome ((D.view disk.old).files (names.Index 0)) ⊎ IsDurable (names.Index 0) (D.view disk.old)
+        → Leads (SameOrStand records history) (D.view disk.old) (D.view disk.new) }
+    ensures same_bodies { Tells (D.view disk.old) → IsSome ((D.view disk.old).files (names.Index 0)) ⊎ IsDurable (names.Index 0) (D.view disk.old)
+        → IfOk result (λ read. (synced : D) × IsSynced (D.view disk.old) (D.view synced)
+        × Leads (λ before image. SameBodies (before (names.Index 0)) (image (names.Index 0))) (D.view synced) (D.view disk.new)) }
+    ensures same_bodies_damaged { (file : FileId) → Tells (D.view disk.old) → IsSome ((D.view disk.old).files (names.Index 0)) ⊎ IsDurable (names.Index 0) (D.view disk.old)
+        → IsErrOf result (OpenCause.Damaged file) → (synced : D) × IsSynced (D.view disk.old) (D.view synced)
+        × Leads (λ before image. SameBodies (before (names.Index 0)) (image (names.Index 0))) (D.view synced) (D.view disk.new) }
+    ensures bodies_stay { Tells (D.view disk.old) → IsDurable (names.Index 0) (D.view disk.old)
+        → Leads (λ before image. SameBodies (before (names.Index 0)) (image (names.Index 0))) (D.view disk.old) (D.view disk.new) }
     ensures others { Leads LeavesOthers (D.view disk.old) (D.view disk.new) }
+    ensures nothing_leaves { Tells (D.view disk.old) → ((history : List Push) → ¬ (StandFor records (D.view disk.old).files history))
+        → Leads (λ before image. (other : FileId) → other ≢ names.Index 0 → image other ≡ before other) (D.view disk.old) (D.view disk.new) }
     ensures damaged_leaves { (file : FileId) → IsErrOf result (OpenCause.Damaged file)
         → Leads (λ before image. (other : FileId) → other ≢ names.Index 0 → image other ≡ before other) (D.view disk.old) (D.view disk.new) }
+    ensures memory_leaves { IsErrOf result OpenCause.Memory
+        → Leads (λ before image. (other : FileId) → other ≢ names.Index 0 → image other ≡ before other) (D.view disk.old) (D.view disk.new) }
+    ensures disk_leaves { (index : IndexView) → (count : ℕ) → Tells (D.view disk.old) → HasIndex records (D.view disk.old).files index → IsErrOf result (OpenCause.Disk count)
+        → Leads (λ before image. (other : FileId) → other ≢ names.Index 0 → is_spare_file other index.entries ≡ false → image other ≡ before other) (D.view disk.old) (D.view disk.new) }
     ensures gone { Tells (D.view disk.old) → IfOk result (λ read. (id : ℕ) → is_spare id read.1.entries ≡ true → (D.view disk.new).files (names.Object id) ≡ None) }
     ensures failed { (count : ℕ) → IsErrOf result (OpenCause.Disk count) → (count ≡ (D.view disk.new).faults) × Rose (D.view disk.old).faults count }
     ensures memory { IsErrOf result OpenCause.Memory → (D.view disk.new).faults ≡ (D.view disk.old).faults }
@@ -141,16 +161,27 @@ impl<D: Disk> Store<D> {
         requires { records ≤ 2 ^ 57 }
         ensures opened { IfOk result (λ store. (store.sure ≡ true) × (store.flight ≡ None) × (store.records ≡ records) × (store.limits ≡ limits)) }
         ensures has { Tells (D.view disk) → IfOk result (λ store. (history : List Push) × StandFor records (D.view disk).files history × HasHistory (D.view store.disk) store history) }
+        ensures index_read { Tells (D.view disk) → IfOk result (λ store. HasIndex records (D.view store.disk).files store.index
+            × (store.count ≡ length (bodies_of (bytes_of ((D.view store.disk).files (names.Index 0)))))) }
         ensures images { (history : List Push) → Tells (D.view disk) → StandFor records (D.view disk).files history
             → IfOk result (λ store. (image : Files) → (D.view store.disk).images_now image → StandFor records image history) }
         ensures damaged { (file : FileId) → Tells (D.view disk) → IfErr result (λ refused. refused.cause ≡ OpenCause.Damaged file → IsBlamed records (D.view disk).files file) }
         ensures gone { Tells (D.view disk) → IfOk result (λ store. HasNoSpares (D.view store.disk) store) }
 
-        // No file is touched but a store's own, and where the files stand for no history none but the index file.
+        // No file is touched but a store's own, and where the files stand for no history none but the index file, whatever the
+        // answer.
         ensures others { IfOk result (λ store. Leads LeavesOthers (D.view disk) (D.view store.disk)) }
         ensures others_refused { IfErr result (λ refused. Leads LeavesOthers (D.view disk) (D.view refused.disk)) }
+        ensures nothing_leaves { Tells (D.view disk) → ((history : List Push) → ¬ (StandFor records (D.view disk).files history))
+            → IfErr result (λ refused. Leads (λ before image. (other : FileId) → other ≢ names.Index 0 → image other ≡ before other) (D.view disk) (D.view refused.disk)) }
         ensures damaged_leaves { (file : FileId) → IfErr result (λ refused. refused.cause ≡ OpenCause.Damaged file
             → Leads (λ before image. (other : FileId) → other ≢ names.Index 0 → image other ≡ before other) (D.view disk) (D.view refused.disk)) }
+
+        // Nor where memory is wanting. A fault of the disk leaves each file but the index file and the objects that aren't live.
+        ensures memory_leaves { IfErr result (λ refused. refused.cause ≡ OpenCause.Memory
+            → Leads (λ before image. (other : FileId) → other ≢ names.Index 0 → image other ≡ before other) (D.view disk) (D.view refused.disk)) }
+        ensures disk_leaves { (index : IndexView) → (count : ℕ) → Tells (D.view disk) → HasIndex records (D.view disk).files index → IfErr result (λ refused. refused.cause ≡ OpenCause.Disk count
+            → Leads (λ before image. (other : FileId) → other ≢ names.Index 0 → is_spare_file other index.entries ≡ false → image other ≡ before other) (D.view disk) (D.view refused.disk)) }
         ensures failed { (count : ℕ) → IfErr result (λ refused. refused.cause ≡ OpenCause.Disk count
             → (count ≡ (D.view refused.disk).faults) × Rose (D.view disk).faults count) }
         ensures memory { IfErr result (λ refused. refused.cause ≡ OpenCause.Memory → (D.view refused.disk).faults ≡ (D.view disk).faults) }
@@ -167,9 +198,29 @@ impl<D: Disk> Store<D> {
         ensures synced { (history : List Push) → Tells (D.view disk) → StandFor records (D.view disk).files history
             → IsSome ((D.view disk).files (names.Index 0)) ⊎ IsDurable (names.Index 0) (D.view disk)
             → IfOk result (λ store. (synced : D) × IsSynced (D.view disk) (D.view synced) × Leads (λ before image. StandFor records image history) (D.view synced) (D.view store.disk)) }
-        ensures since { (history : List Push) → (flights : List (List Push)) → Tells (D.view disk) → IsQuiet (D.view disk) → StandFor records (D.view disk).files history
+
+        // From there on the index file stands for the bodies that it stood for.
+        ensures same_bodies { Tells (D.view disk) → IsSome ((D.view disk).files (names.Index 0)) ⊎ IsDurable (names.Index 0) (D.view disk)
+            → IfOk result (λ store. (synced : D) × IsSynced (D.view disk) (D.view synced)
+            × Leads (λ before image. SameBodies (before (names.Index 0)) (image (names.Index 0))) (D.view synced) (D.view store.disk)) }
+        ensures same_bodies_damaged { (file : FileId) → Tells (D.view disk) → IsSome ((D.view disk).files (names.Index 0)) ⊎ IsDurable (names.Index 0) (D.view disk)
+            → IfErr result (λ refused. refused.cause ≡ OpenCause.Damaged file → (synced : D) × IsSynced (D.view disk) (D.view synced)
+            × Leads (λ before image. SameBodies (before (names.Index 0)) (image (names.Index 0))) (D.view synced) (D.view refused.disk)) }
+
+        // Where the index file is on the disk, it stands for them at each moment of an opening that is refused for any cause.
+        ensures same_bodies_refused { Tells (D.view disk) → IsDurable (names.Index 0) (D.view disk)
+            → IfErr result (λ refused. Leads (λ before image. SameBodies (before (names.Index 0)) (image (names.Index 0))) (D.view disk) (D.view refused.disk)) }
+
+        // What was kept since an earlier start is kept, also by an opening that is refused, and where calls waited for a sync.
+        ensures keeps { (start : Start) → (flights : List (List Push × List Push)) → (history : List Push) → Tells (D.view disk)
+            → IsSome ((D.view disk).files (names.Index 0)) ⊎ IsDurable (names.Index 0) (D.view disk) → StandFor records (D.view disk).files history
+            → Keeps records start (λ past flight. Contains flights (past, flight)) (D.view disk) history → IfOk result (λ store. Keeps records start (λ past flight. Contains flights (past, flight)) (D.view store.disk) history) }
+        ensures keeps_refused { (start : Start) → (flights : List (List Push × List Push)) → (history : List Push) → Tells (D.view disk)
+            → IsSome ((D.view disk).files (names.Index 0)) ⊎ IsDurable (names.Index 0) (D.view disk) → StandFor records (D.view disk).files history
+            → Keeps records start (λ past flight. Contains flights (past, flight)) (D.view disk) history → IfErr result (λ refused. Keeps records start (λ past flight. Contains flights (past, flight)) (D.view refused.disk) history) }
+        ensures since { (history : List Push) → (flights : List (List Push × List Push)) → Tells (D.view disk) → IsQuiet (D.view disk) → StandFor records (D.view disk).files history
             → IfOk result (λ store. IsKeeping (start_at (D.view disk) history) flights (D.view store.disk) store history) }
-        ensures since_opened { (history : List Push) → (flights : List (List Push)) → Tells (D.view disk) → StandFor records (D.view disk).files history
+        ensures since_opened { (history : List Push) → (flights : List (List Push × List Push)) → Tells (D.view disk) → StandFor records (D.view disk).files history
             → IfOk result (λ store. IsKeeping (start_at (D.view store.disk) history) flights (D.view store.disk) store history) }
         ensures goes_on { IfOk result (λ store. GoesOn (D.view disk) (D.view store.disk)) }
         ensures goes_on_refused { IfErr result (λ refused. GoesOn (D.view disk) (D.view refused.disk)) }

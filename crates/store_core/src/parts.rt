@@ -1,8 +1,8 @@
 // What a store does with its parts.
-ghost use Rattle.std.specs.Prelude.{◌≡◌, ◌+◌, ◌<◌, ◌≤◌, ◌⊎◌, ◌++◌, List, true, false, IsFalse, IsTrue, OnOk, OnErr, IsErrOf, None, Some};
+ghost use Rattle.std.specs.Prelude.{◌≡◌, ◌+◌, ◌<◌, ◌≤◌, ◌⊎◌, ◌++◌, List, true, false, IfOk, IsFalse, IsTrue, OnOk, OnErr, IsErrOf, None, Some, length};
 ghost use Rattle.disk_trait.specs.Disk.{Tells, Rose, GoesOn, Leads, Stays};
 ghost use Rattle.disk_trait.specs.declared.disk.FileId.TheVariants as names;
-ghost use Rattle.metastore_index.specs.Entries.{Becomes, IsTaken};
+ghost use Rattle.metastore_index.specs.Entries.{Becomes, IsTaken, end_of};
 ghost use Rattle.profile_model.specs.declared.push.Push.{Push};
 ghost use Rattle.std.specs.List.{list_any};
 ghost use Rattle.tenant_books.specs.declared.verdict.Verdict.{Verdict};
@@ -10,10 +10,11 @@ ghost use Rattle.tenant_books.specs.Books.{AreBooksOf, Knows};
 ghost use Rattle.tenant_books.specs.Keeping.{is_kept_alone, is_some_kept};
 ghost use Rattle.tenant_books.specs.Limits.{limit_of};
 ghost use Rattle.tenant_books.specs.Verdicts.{AreVerdicts};
+ghost use Rattle.history_files.specs.History.{StandFor};
 ghost use Rattle.history_files.specs.Keeps.{StandForEither};
 ghost use Rattle.history_files.specs.Standing.{IsInFlight};
-ghost use Rattle.store_core.specs.Store.{IsKept, Mends};
-ghost use Rattle.store_core.specs.Changes.{CanPut, LeavesOthers};
+ghost use Rattle.store_core.specs.Store.{HasNoRoom, IsBehind, IsKept, given};
+ghost use Rattle.store_core.specs.Changes.{CanPut, LeavesAllBut, LeavesOthers};
 
 use disk_trait::Disk;
 use gate_journal::Journal;
@@ -22,6 +23,12 @@ use metastore_index::{Entry, Index};
 use profile_model::Push;
 use std::alloc::AllocError;
 use tenant_books::{Books, Limits, PushAsk, would_keep};
+
+/// How many pushes are settled together at most.
+const MOST_PUSHES: u64 = 64;
+
+/// Where an index's numbers of pushes and its ids end.
+const NUMBERS_END: u64 = 1 << 63;
 
 // Room for what pushes bring to the index and the books, so that nothing that takes them takes memory.
 pub(crate) fn make_room(
@@ -46,17 +53,21 @@ pub(crate) fn decide_on<D: Disk>(
     books: &mut Books,
     entry: &Entry,
     pushes: &[Push],
-) -> Result<(), FilesFault>
+) -> Result<bool, FilesFault>
     requires sure { journal.old.sure ≡ false }
+    requires behind { IsBehind index.old.entries (record { entry = entry.now; pushes = pushes.now }) }
     requires flies { Tells (D.view disk.old) → (history : List Push) × IsInFlight (D.view disk.old) journal.old index.old entry.now history pushes.now }
     ensures decided { (history : List Push) → Tells (D.view disk.old) → IsKept (D.view disk.old) journal.old index.old (Some (record { entry = entry.now; pushes = pushes.now })) books.old false history
-        → OnOk result ((next : List Push) × Mends history (Some (record { entry = entry.now; pushes = pushes.now })) next × IsKept (D.view disk.new) journal.new index.new None books.new false next) }
+        → IfOk result (λ came. IsKept (D.view disk.new) journal.new index.new None books.new false (history ++ given came pushes.now)) }
+    ensures stood { (history : List Push) → Tells (D.view disk.old) → IsKept (D.view disk.old) journal.old index.old (Some (record { entry = entry.now; pushes = pushes.now })) books.old false history
+        → IfOk result (λ came. StandFor journal.old.limit (D.view disk.old).files (history ++ given came pushes.now)) }
     ensures doubted { (history : List Push) → Tells (D.view disk.old) → IsKept (D.view disk.old) journal.old index.old (Some (record { entry = entry.now; pushes = pushes.now })) books.old false history
         → OnErr result (IsKept (D.view disk.new) journal.new index.new (Some (record { entry = entry.now; pushes = pushes.now })) books.new false history) }
     ensures took { Tells (D.view disk.old) → OnOk result (
         ((index.new.entries ≡ index.old.entries) × (index.new.greatest ≡ index.old.greatest) × (journal.new.count ≡ journal.old.count))
         ⊎ (Becomes index.old.entries entry.now index.new.entries × (index.new.greatest ≡ entry.now.id) × (journal.new.count ≡ journal.old.count + 1))) }
     ensures same { OnErr result ((index.new.entries ≡ index.old.entries) × (index.new.greatest ≡ index.old.greatest)) }
+    ensures end { IfOk result (λ came. end_of index.new.entries ≡ end_of index.old.entries + length (given came pushes.now)) }
     ensures sure { OnOk result (journal.new.sure ≡ true) }
     ensures unsure { OnErr result (journal.new ≡ journal.old) }
     ensures file { journal.new.file ≡ journal.old.file }
@@ -70,12 +81,16 @@ pub(crate) fn decide_on<D: Disk>(
     make_room(index, books, pushes)?;
     match journal.mend(disk) {
         Ok(Some(_)) => {}
-        Ok(None) => return Ok(()),
+        Ok(None) => return Ok(false),
         Err(_) => return Err(FilesFault::Disk),
     }
-    let _ = index.apply(*entry);
+    match index.apply(*entry) {
+        Ok(()) => {}
+        // This doesn't come where the disk tells what it holds.
+        Err(_) => return Ok(false),
+    }
     books.take(pushes);
-    Ok(())
+    Ok(true)
 }
 
 // Writes an object and its entry, and takes in the entry and the pushes that it adds. It takes no memory.
@@ -113,7 +128,10 @@ pub(crate) fn put_on<D: Disk>(
     ensures any_moment { (history : List Push) → Tells (D.view disk.old) → IsKept (D.view disk.old) journal.old index.old None books.old true history
         → CanPut index.old entry.now bytes.now history pushes.now
         → Leads (λ before image. StandForEither journal.old.limit history (history ++ pushes.now) image) (D.view disk.old) (D.view disk.new) }
-    ensures others { Tells (D.view disk.old) → journal.old.file ≡ names.Index 0 → Leads LeavesOthers (D.view disk.old) (D.view disk.new) }
+    ensures others { journal.old.file ≡ names.Index 0 → Leads LeavesOthers (D.view disk.old) (D.view disk.new) }
+    ensures others_at_each_moment { journal.old.file ≡ names.Index 0 → Leads (LeavesAllBut entry.now.id) (D.view disk.old) (D.view disk.new) }
+    ensures others_read { Tells (D.view disk.old) → journal.old.file ≡ names.Index 0
+        → OnOk result (LeavesAllBut entry.now.id (D.view disk.old).files (D.view disk.new).files) }
     ensures failed { OnErr result (Rose (D.view disk.old).faults (D.view disk.new).faults) }
     ensures quiet { OnOk result ((D.view disk.new).faults ≡ (D.view disk.old).faults) }
     ensures goes_on { GoesOn (D.view disk.old) (D.view disk.new) }
@@ -127,18 +145,33 @@ pub(crate) fn put_on<D: Disk>(
     Ok(())
 }
 
-// Whether the index has as many records as it may, and at least one of the pushes would be kept. It takes no memory.
+// Whether the index takes no further record.
+fn has_no_room(journal: &Journal, records: u64, index: &Index) -> bool
+    ensures yes { IsTrue result → HasNoRoom records journal.now.count index.now }
+    ensures no { IsFalse result → ¬ (HasNoRoom records journal.now.count index.now) }
+{
+    if journal.bodies() >= records {
+        return true;
+    }
+    if index.next_id() >= NUMBERS_END {
+        return true;
+    }
+    index.end() >= NUMBERS_END - MOST_PUSHES
+}
+
+// Whether the index takes no further record, and at least one of the pushes would be kept. It takes no memory.
 pub(crate) fn is_full_for(
     journal: &Journal,
     records: u64,
+    index: &Index,
     books: &Books,
     limits: &Limits,
     asks: &[PushAsk],
 ) -> bool
-    ensures full { IsTrue result → records ≤ journal.now.count }
+    ensures full { IsTrue result → HasNoRoom records journal.now.count index.now }
     ensures some { IsTrue result → (history : List Push) → (verdicts : List Verdict) → (last : List Push) → AreBooksOf books.now history
         → AreVerdicts (limit_of limits.now) history asks.now verdicts last → is_some_kept verdicts ≡ true }
-    ensures no { IsFalse result → (journal.now.count < records) ⊎ (list_any (is_kept_alone books.now limits.now) asks.now ≡ false) }
+    ensures no { IsFalse result → (¬ (HasNoRoom records journal.now.count index.now)) ⊎ (list_any (is_kept_alone books.now limits.now) asks.now ≡ false) }
 {
-    journal.bodies() >= records && would_keep(books, limits, asks)
+    has_no_room(journal, records, index) && would_keep(books, limits, asks)
 }

@@ -18,7 +18,7 @@ use std::sync::ArcSlice;
 use std::test::Fail;
 use tenant_books::{Limits, PushAsk, Verdict};
 
-const RECORDS: u64 = 4;
+const RECORDS: u64 = 8;
 
 // What all values of t1 may come to.
 const LIMIT: u64 = 20;
@@ -75,7 +75,7 @@ fn asks(alloc: Global, rows: &[(&str, u64, u64)]) -> Result<Vec<PushAsk>, Fail> 
 
 const THREE: [(&str, u64, u64); 3] = [("t1", 7, 0), ("t2", 4, 0), ("t1", 3, 0)];
 
-const ONE: [(&str, u64, u64); 1] = [("t2", 1, 0)];
+pub(crate) const ONE: [(&str, u64, u64); 1] = [("t2", 1, 0)];
 
 fn limits(alloc: Global) -> Result<Limits, Fail> {
     let mut limits = Limits::usual(alloc);
@@ -110,7 +110,7 @@ pub(crate) fn settled<D: Disk>(
         return Ok(String::new(alloc));
     }
     match store.settle(alloc, asks) {
-        Ok(verdicts) => told(alloc, &verdicts),
+        Ok(settled) => told(alloc, &settled.verdicts),
         Err(SettleFault::Memory) => Ok(format!(in alloc; "memory")?),
         Err(SettleFault::Disk(count)) => Ok(format!(in alloc; "disk {count}")?),
         Err(SettleFault::Full { records, asks }) => {
@@ -158,10 +158,14 @@ pub(crate) fn opens_to<D: Disk + Drop>(alloc: Global, disk: D) -> Result<String,
 
 // What is done with a store.
 #[derive(Drop)]
-enum Act<'a> {
+pub(crate) enum Act<'a> {
     Settle(&'a [(&'a str, u64, u64)]),
+    Decide,
     Mend,
+    Reap,
+    Sure,
     Count,
+    Entries,
     Part(u64, u64),
     Object(u64),
 }
@@ -170,15 +174,28 @@ enum Act<'a> {
 fn done<D: Disk>(alloc: Global, store: &mut Store<D>, act: &Act) -> Result<String, Fail> {
     match act {
         Act::Settle(rows) => settled(alloc, store, rows),
-        Act::Mend => mended(alloc, store),
+        Act::Decide => decided(alloc, store),
+        Act::Mend => mended(alloc, store.mend(alloc)),
+        Act::Reap => mended(alloc, store.reap(alloc)),
+        Act::Sure => Ok(format!(in alloc; "{}", store.sure)?),
         Act::Count => counts(alloc, store),
+        Act::Entries => entries_of(alloc, store),
         Act::Part(at, until) => part_of(alloc, store, *at, *until),
         Act::Object(at) => object_at(alloc, store, *at),
     }
 }
 
-fn mended<D: Disk>(alloc: Global, store: &mut Store<D>) -> Result<String, Fail> {
-    Ok(match store.mend(alloc) {
+// How many pushes turn out to be kept.
+fn decided<D: Disk>(alloc: Global, store: &mut Store<D>) -> Result<String, Fail> {
+    Ok(match store.decide(alloc) {
+        Ok(came) => format!(in alloc; "came {}", came.len())?,
+        Err(MendFault::Memory) => format!(in alloc; "memory")?,
+        Err(MendFault::Disk(count)) => format!(in alloc; "disk {count}")?,
+    })
+}
+
+fn mended(alloc: Global, answer: Result<(), MendFault>) -> Result<String, Fail> {
+    Ok(match answer {
         Ok(()) => format!(in alloc; "mended")?,
         Err(MendFault::Memory) => format!(in alloc; "memory")?,
         Err(MendFault::Disk(count)) => format!(in alloc; "disk {count}")?,
@@ -213,6 +230,17 @@ fn told_of(alloc: Global, part: &Part) -> Result<String, Fail> {
     Ok(text)
 }
 
+// The live entries: their pushes, their objects and their levels.
+fn entries_of<D: Disk>(alloc: Global, store: &Store<D>) -> Result<String, Fail> {
+    let mut text = String::new(alloc);
+    for entry in store.index().entries() {
+        let (lo, hi) = (entry.lo, entry.hi);
+        let word = format!(in alloc; "{lo}-{hi}:{}/{} ", entry.id, entry.level)?;
+        text.push_str(word.as_str())?;
+    }
+    Ok(text)
+}
+
 // The entry that covers a push, and how many pushes its object has.
 fn object_at<D: Disk>(alloc: Global, store: &mut Store<D>, at: u64) -> Result<String, Fail> {
     if at >= store.len() {
@@ -233,7 +261,12 @@ fn all_done<D: Disk>(alloc: Global, store: &mut Store<D>, acts: &[Act]) -> Resul
     Ok(text)
 }
 
-fn gives(alloc: Global, disk: MemoryDisk, acts: &[Act], want: &str) -> Result<bool, Fail> {
+pub(crate) fn gives(
+    alloc: Global,
+    disk: MemoryDisk,
+    acts: &[Act],
+    want: &str,
+) -> Result<bool, Fail> {
     let Ok(mut store) = opened(alloc, disk)? else {
         return Ok(false);
     };
@@ -247,7 +280,7 @@ fn says(alloc: Global, acts: &[Act], want: &str) -> Result<bool, Fail> {
 }
 
 // A disk after acts.
-fn after(alloc: Global, disk: MemoryDisk, acts: &[Act]) -> Result<MemoryDisk, Fail> {
+pub(crate) fn after(alloc: Global, disk: MemoryDisk, acts: &[Act]) -> Result<MemoryDisk, Fail> {
     let Ok(mut store) = opened(alloc, disk)? else {
         return Ok(MemoryDisk::new(alloc));
     };
@@ -255,114 +288,168 @@ fn after(alloc: Global, disk: MemoryDisk, acts: &[Act]) -> Result<MemoryDisk, Fa
     Ok(store.close())
 }
 
-const SETTLE: Act<'static> = Act::Settle(&THREE);
+pub(crate) const SETTLE: Act<'static> = Act::Settle(&THREE);
 
-// How many calls the opening of an empty disk makes.
-fn calls_of_opening(alloc: Global) -> Result<u64, Fail> {
-    let disk = after(alloc, MemoryDisk::new(alloc), &[])?;
-    Ok(disk.calls())
+// How many calls a disk has met once it is opened after these acts.
+fn calls_before(alloc: Global, before: &[Act]) -> Result<u64, Fail> {
+    let disk = after(alloc, MemoryDisk::new(alloc), before)?;
+    Ok(after(alloc, disk, &[])?.calls())
 }
 
-// An empty disk, whose call of that number after its opening fails.
-fn failing_at(alloc: Global, call: u64) -> Result<MemoryDisk, Fail> {
-    let mut failing = Vec::new(alloc);
-    failing.push(calls_of_opening(alloc)?.saturating_add(call))?;
-    Ok(MemoryDisk::with(alloc, Vec::new(alloc), failing))
+// A disk that these acts leave, whose calls of these numbers after its next opening fail.
+pub(crate) fn failing(alloc: Global, before: &[Act], calls: &[u64]) -> Result<MemoryDisk, Fail> {
+    let begin = calls_before(alloc, before)?;
+    let mut numbers = Vec::new(alloc);
+    for call in calls {
+        numbers.push(begin.saturating_add(*call))?;
+    }
+    let disk = MemoryDisk::with(alloc, Vec::new(alloc), numbers);
+    after(alloc, disk, before)
 }
 
-// What the images of a moment open to: b where they hold what was before the settle, a where what is after it.
-fn letters(alloc: Global, disk: &MemoryDisk, moment: u64) -> Result<String, Fail> {
-    let mut letters = String::new(alloc);
+// How many pushes the images of a moment hold.
+fn digits(alloc: Global, disk: &MemoryDisk, moment: u64) -> Result<String, Fail> {
+    let mut digits = String::new(alloc);
     for pick in 0..4 {
         let image = disk.image(alloc, moment, pick)?;
-        letters.push_str(letter(alloc, image)?)?;
+        digits.push_str(digit(alloc, image)?)?;
     }
-    Ok(letters)
+    Ok(digits)
 }
 
-fn letter(alloc: Global, image: MemoryDisk) -> Result<&'static str, Fail> {
+fn digit(alloc: Global, image: MemoryDisk) -> Result<&'static str, Fail> {
     Ok(match opens_to(alloc, image)?.as_str() {
-        "0 0 0" => "b",
-        "3 2 1" => "a",
+        "0 0 0" => "0",
+        "1 0 1" => "1",
+        "3 2 1" => "3",
+        "4 2 2" => "4",
+        "7 7 0" => "7",
+        "8 8 0" => "8",
         _ => "?",
     })
 }
 
-// What the images of each moment of a settle open to, and those after it.
-fn moments(alloc: Global, disk: MemoryDisk) -> Result<String, Fail> {
-    let begin = calls_of_opening(alloc)?;
-    let disk = after(alloc, disk, &[SETTLE])?;
+// The images of each moment from this one on, and those after the last call.
+fn digits_from(alloc: Global, disk: &MemoryDisk, begin: u64) -> Result<String, Fail> {
     let mut text = String::new(alloc);
     for moment in begin..=disk.calls() {
-        text.push_str(letters(alloc, &disk, moment)?.as_str())?;
+        text.push_str(digits(alloc, disk, moment)?.as_str())?;
         text.push_str(" ")?;
     }
     Ok(text)
 }
 
-fn moments_say(alloc: Global, want: &str) -> Result<bool, Fail> {
-    let text = moments(alloc, MemoryDisk::new(alloc))?;
-    Ok(text.as_str() == want)
-}
-
-fn failing_moments_say(alloc: Global, call: u64, want: &str) -> Result<bool, Fail> {
-    let text = moments(alloc, failing_at(alloc, call)?)?;
+// What the images of each moment of acts hold, from this call after the opening on, over a disk that earlier acts left and
+// whose calls of these numbers fail.
+pub(crate) fn moments_say(
+    alloc: Global,
+    before: &[Act],
+    calls: &[u64],
+    acts: &[Act],
+    from: u64,
+    want: &str,
+) -> Result<bool, Fail> {
+    let begin = calls_before(alloc, before)?.saturating_add(from);
+    let disk = after(alloc, failing(alloc, before, calls)?, acts)?;
+    let text = digits_from(alloc, &disk, begin)?;
     Ok(text.as_str() == want)
 }
 
 // The calls are: the object's write and sync, the record's, and the gate's.
 #[test]
 fn a_crash_in_a_settle_leaves_all_its_pushes_or_none(rt: HostRuntime) -> Result<(), Fail> {
-    let alloc = rt.alloc();
-    assert!(rt; moments_say(alloc, "bbbb bbbb bbbb bbbb bbbb baab aaaa ")?);
-    for (call, want) in [
-        (0, "bbbb bbbb "),
-        (1, "bbbb bbbb bbbb "),
-        (2, "bbbb bbbb bbbb bbbb "),
-        (3, "bbbb bbbb bbbb bbbb bbbb "),
-        (4, "bbbb bbbb bbbb bbbb bbbb baab "),
-        (5, "bbbb bbbb bbbb bbbb bbbb baab baab "),
-    ] {
-        assert!(rt; failing_moments_say(alloc, call, want)?, "call {call}");
+    let cases: [(&[u64], &str); 7] = [
+        (&[], "0000 0000 0000 0000 0000 0330 3333 "),
+        (&[0], "0000 0000 "),
+        (&[1], "0000 0000 0000 "),
+        (&[2], "0000 0000 0000 0000 "),
+        (&[3], "0000 0000 0000 0000 0000 "),
+        (&[4], "0000 0000 0000 0000 0000 0330 "),
+        (&[5], "0000 0000 0000 0000 0000 0330 0330 "),
+    ];
+    for (calls, want) in cases {
+        assert!(rt;
+            moments_say(rt.alloc(), &[], calls, &[SETTLE], 0, want)?,
+            "{want}"
+        );
     }
     Ok(())
 }
 
 const COME_AGAIN: [Act<'static>; 5] = [SETTLE, Act::Count, Act::Mend, Act::Count, SETTLE];
 
-// What is answered where that call of a settle fails, what the store has then and after a mend, and what the same pushes
-// are answered when they come again.
-fn fault_gives(alloc: Global, call: u64, want: &str) -> Result<bool, Fail> {
-    gives(alloc, failing_at(alloc, call)?, &COME_AGAIN, want)
+// What acts give over a disk whose calls of these numbers fail.
+pub(crate) fn fault_gives(
+    alloc: Global,
+    calls: &[u64],
+    acts: &[Act],
+    want: &str,
+) -> Result<bool, Fail> {
+    gives(alloc, failing(alloc, &[], calls)?, acts, want)
 }
 
-// What the disk opens to after all that.
-fn fault_leaves(alloc: Global, call: u64, want: &str) -> Result<bool, Fail> {
-    let disk = after(alloc, failing_at(alloc, call)?, &COME_AGAIN)?;
+// What the disk opens to after them.
+pub(crate) fn fault_leaves(
+    alloc: Global,
+    calls: &[u64],
+    acts: &[Act],
+    want: &str,
+) -> Result<bool, Fail> {
+    let disk = after(alloc, failing(alloc, &[], calls)?, acts)?;
     Ok(opens_to(alloc, disk)?.as_str() == want)
 }
 
+// What the store has then and after a mend, and what the same pushes are answered when they come again.
 #[test]
 fn pushes_of_a_failed_settle_come_again_or_turn_out_to_be_kept(
     rt: HostRuntime,
 ) -> Result<(), Fail> {
     let alloc = rt.alloc();
-    for call in 0..5 {
+    for call in 0..6 {
+        let (want, left) = if call < 5 {
+            ("disk 1|0 0 0|mended|0 0 0|0/1 1/1 2/2 |", "3 2 1")
+        } else {
+            ("disk 1|0 0 0|mended|3 2 1|3/3 4/2 5/4 |", "6 4 2")
+        };
         assert!(rt;
-            fault_gives(alloc, call, "disk 1|0 0 0|mended|0 0 0|0/1 1/1 2/2 |")?,
+            fault_gives(alloc, &[call], &COME_AGAIN, want)?,
             "call {call}"
         );
-        assert!(rt; fault_leaves(alloc, call, "3 2 1")?, "call {call}");
+        assert!(rt;
+            fault_leaves(alloc, &[call], &COME_AGAIN, left)?,
+            "call {call}"
+        );
     }
-    assert!(rt; fault_gives(alloc, 5, "disk 1|0 0 0|mended|3 2 1|3/3 4/2 5/4 |")?);
-    assert!(rt; fault_leaves(alloc, 5, "6 4 2")?);
+    Ok(())
+}
+
+#[test]
+fn a_decision_gives_the_pushes_that_turn_out_to_be_kept(rt: HostRuntime) -> Result<(), Fail> {
+    let alloc = rt.alloc();
+    let acts = [SETTLE, Act::Decide, Act::Count, Act::Decide];
+    assert!(rt;
+        gives(
+            alloc,
+            failing(alloc, &[], &[4])?,
+            &acts,
+            "disk 1|came 0|0 0 0|came 0|"
+        )?
+    );
+    assert!(rt;
+        gives(
+            alloc,
+            failing(alloc, &[], &[5])?,
+            &acts,
+            "disk 1|came 3|3 2 1|came 0|"
+        )?
+    );
     Ok(())
 }
 
 // How many calls of the disk a settle makes.
 fn calls_of_settle(alloc: Global, rows: &[(&str, u64, u64)]) -> Result<u64, Fail> {
-    let disk = after(alloc, MemoryDisk::new(alloc), &[Act::Settle(rows)])?;
-    Ok(disk.calls().saturating_sub(calls_of_opening(alloc)?))
+    let disk = after(alloc, failing(alloc, &[], &[])?, &[Act::Settle(rows)])?;
+    Ok(disk.calls().saturating_sub(calls_before(alloc, &[])?))
 }
 
 #[test]
@@ -397,25 +484,75 @@ fn pushes_are_judged_in_order_each_after_those_kept_before_it(rt: HostRuntime) -
     Ok(())
 }
 
-const LAST: Act<'static> = Act::Settle(&[("t1", 1, 0)]);
+const TWO: Act<'static> = Act::Settle(&[("t1", 2, 0)]);
+
+const SEVEN: [Act<'static>; 7] = [TWO, TWO, TWO, TWO, TWO, TWO, TWO];
+
+const EIGHTH: Act<'static> = Act::Settle(&[("t1", 5, 0)]);
+
+// What acts give over a disk with seven pushes, whose calls of these numbers fail.
+pub(crate) fn eighth_gives(
+    alloc: Global,
+    calls: &[u64],
+    acts: &[Act],
+    want: &str,
+) -> Result<bool, Fail> {
+    gives(alloc, failing(alloc, &SEVEN, calls)?, acts, want)
+}
+
+#[test]
+fn the_eighth_push_is_number_7_and_has_front_8(rt: HostRuntime) -> Result<(), Fail> {
+    let alloc = rt.alloc();
+    assert!(rt;
+        eighth_gives(
+            alloc,
+            &[],
+            &[EIGHTH, Act::Count, Act::Entries],
+            "7/8 |8 8 0|0-1:1/0 1-2:2/0 2-3:3/0 3-4:4/0 4-5:5/0 5-6:6/0 6-7:7/0 7-8:8/0 |"
+        )?
+    );
+    assert!(rt;
+        eighth_gives(
+            alloc,
+            &[],
+            &[
+                EIGHTH,
+                Act::Part(0, 8),
+                Act::Part(6, 8),
+                Act::Part(7, 8),
+                Act::Object(7)
+            ],
+            "7/8 |0-1: 0@102|6-7: 6@102|7-8: 7@105|7-8 8 1|"
+        )?
+    );
+    assert!(rt;
+        moments_say(
+            alloc,
+            &SEVEN,
+            &[],
+            &[EIGHTH],
+            0,
+            "7777 7777 7777 7777 7777 7887 8888 "
+        )?
+    );
+    Ok(())
+}
 
 #[test]
 fn a_full_index_keeps_no_more_and_says_so_only_to_what_would_be_kept(
     rt: HostRuntime,
 ) -> Result<(), Fail> {
     assert!(rt;
-        says(
+        eighth_gives(
             rt.alloc(),
+            &[],
             &[
-                LAST,
-                LAST,
-                LAST,
-                LAST,
-                LAST,
-                Act::Settle(&[("t1", 1, 9), ("t1", 17, 0)]),
+                EIGHTH,
+                Act::Settle(&[("t1", 1, 0)]),
+                Act::Settle(&[("t1", 1, 9), ("t1", 2, 0)]),
                 Act::Count
             ],
-            "0/1 |1/2 |2/3 |3/4 |full 4 of 1|ahead 9/4 over 4+17/20/4 |4 4 0|"
+            "7/8 |full 8 of 1|ahead 9/8 over 19+2/20/8 |8 8 0|"
         )?
     );
     Ok(())
@@ -452,12 +589,16 @@ fn settle_in_folder(rt: &HostRuntime, rows: &[(&str, u64, u64)]) -> Result<Strin
     }
 }
 
-fn folder_says(rt: &HostRuntime, rows: &[(&str, u64, u64)], want: &str) -> Result<bool, Fail> {
+pub(crate) fn folder_says(
+    rt: &HostRuntime,
+    rows: &[(&str, u64, u64)],
+    want: &str,
+) -> Result<bool, Fail> {
     let text = settle_in_folder(rt, rows)?;
     Ok(text.as_str() == want)
 }
 
-fn folder_opens_to(rt: &HostRuntime, want: &str) -> Result<bool, Fail> {
+pub(crate) fn folder_opens_to(rt: &HostRuntime, want: &str) -> Result<bool, Fail> {
     let text = opens_to(rt.alloc(), DirDisk::new(rt.clone()?))?;
     Ok(text.as_str() == want)
 }

@@ -1,10 +1,9 @@
 // Folders that something damaged, and objects that no record lists.
-ghost use Rattle.std.specs.Prelude.{◌<◌};
 
 use super::*;
-use crate::tests::{opened, opens_to, settled};
+use crate::tests::{Act, after, opened, opens_to};
 use disk_trait::{Disk, FileId, MemoryDisk};
-use metastore_index::Entry;
+use metastore_index::{Entry, MAX_LEVEL};
 use std::alloc::Global;
 use std::test::Fail;
 
@@ -21,11 +20,12 @@ fn disk_of(alloc: Global, values: &[u64]) -> Result<MemoryDisk, Fail> {
 }
 
 fn with_one_more(alloc: Global, disk: MemoryDisk, value: u64) -> Result<MemoryDisk, Fail> {
-    let Ok(mut store) = opened(alloc, disk)? else {
-        return Ok(MemoryDisk::new(alloc));
-    };
-    settled(alloc, &mut store, &[("t2", value, 0)])?;
-    Ok(store.close())
+    after(alloc, disk, &[Act::Settle(&[("t2", value, 0)])])
+}
+
+// A disk with one object for these pushes.
+fn disk_with(alloc: Global, rows: &[(&str, u64, u64)]) -> Result<MemoryDisk, Fail> {
+    after(alloc, MemoryDisk::new(alloc), &[Act::Settle(rows)])
 }
 
 // What a file holds.
@@ -46,6 +46,8 @@ fn replace(disk: &mut MemoryDisk, file: FileId, bytes: &[u8]) -> Result<(), Fail
 const FIRST: FileId = FileId::Object(1);
 
 const SECOND: FileId = FileId::Object(2);
+
+const THIRD: FileId = FileId::Object(3);
 
 const INDEX: FileId = FileId::Index(0);
 
@@ -88,6 +90,71 @@ fn an_object_that_is_not_its_entrys_is_to_blame(rt: HostRuntime) -> Result<(), F
     Ok(())
 }
 
+// A disk whose one entry, of an object of two pushes, ends at this push. The last byte of its end is the 17th of the file.
+fn with_end(alloc: Global, hi: u8) -> Result<String, Fail> {
+    let mut disk = disk_with(alloc, &[("t2", 7, 0), ("t2", 4, 0)])?;
+    let mut bytes = bytes_of(alloc, &mut disk, INDEX)?;
+    if let Some(byte) = bytes.get_mut(16) {
+        *byte = hi;
+    }
+    replace(&mut disk, INDEX, &bytes)?;
+    opens_to(alloc, disk)
+}
+
+fn end_says(alloc: Global, hi: u8, want: &str) -> Result<bool, Fail> {
+    let text = with_end(alloc, hi)?;
+    Ok(text.as_str() == want)
+}
+
+#[test]
+fn an_object_of_another_count_of_pushes_is_to_blame(rt: HostRuntime) -> Result<(), Fail> {
+    let alloc = rt.alloc();
+    assert!(rt; end_says(alloc, 1, "obj-0000000000000001")?);
+    assert!(rt; end_says(alloc, 2, "2 0 2")?);
+    assert!(rt; end_says(alloc, 3, "obj-0000000000000001")?);
+    Ok(())
+}
+
+fn shorten(alloc: Global, disk: &mut MemoryDisk, file: FileId) -> Result<(), Fail> {
+    let mut bytes = bytes_of(alloc, disk, file)?;
+    let _ = bytes.pop();
+    replace(disk, file, &bytes)
+}
+
+// Three objects, of which one is shortened and another one removed.
+fn with_two_faults(alloc: Global, shorter: FileId, removed: FileId) -> Result<String, Fail> {
+    let mut disk = disk_of(alloc, &[7, 7, 7])?;
+    shorten(alloc, &mut disk, shorter)?;
+    disk.remove(removed)?;
+    opens_to(alloc, disk)
+}
+
+fn two_faults_say(
+    alloc: Global,
+    shorter: FileId,
+    removed: FileId,
+    want: &str,
+) -> Result<bool, Fail> {
+    let text = with_two_faults(alloc, shorter, removed)?;
+    Ok(text.as_str() == want)
+}
+
+#[test]
+fn of_two_faults_the_earliest_is_to_blame(rt: HostRuntime) -> Result<(), Fail> {
+    for (shorter, removed, want) in [
+        (FIRST, SECOND, "obj-0000000000000001"),
+        (SECOND, FIRST, "obj-0000000000000001"),
+        (SECOND, THIRD, "obj-0000000000000002"),
+        (THIRD, SECOND, "obj-0000000000000002"),
+    ] {
+        assert!(rt;
+            two_faults_say(rt.alloc(), shorter, removed, want)?,
+            "{shorter} and {removed}"
+        );
+    }
+    Ok(())
+}
+
 // Two objects, the first of which has this value in the place of 7.
 fn with_first_value(alloc: Global, value: u64) -> Result<String, Fail> {
     let mut disk = disk_of(alloc, &[7, MOST - 7])?;
@@ -125,17 +192,26 @@ fn with_record(alloc: Global, entry: &Entry) -> Result<String, Fail> {
     opens_to(alloc, disk)
 }
 
-fn record_says(alloc: Global, lo: u64, id: u64, want: &str) -> Result<bool, Fail>
-    requires { lo < 100 }
-{
+// What a disk of two pushes opens to whose third record has these numbers.
+fn record_says(
+    alloc: Global,
+    lo: u64,
+    hi: u64,
+    id: u64,
+    level: u8,
+    want: &str,
+) -> Result<bool, Fail> {
+    if lo >= hi || level > MAX_LEVEL {
+        return Ok(false);
+    }
     let entry = Entry {
         lo,
-        hi: lo + 1,
+        hi,
         id,
         length: 30,
         tmin: 0,
         tmax: 0,
-        level: 0,
+        level,
     };
     let text = with_record(alloc, &entry)?;
     Ok(text.as_str() == want)
@@ -143,10 +219,79 @@ fn record_says(alloc: Global, lo: u64, id: u64, want: &str) -> Result<bool, Fail
 
 #[test]
 fn an_index_whose_records_leave_none_is_to_blame(rt: HostRuntime) -> Result<(), Fail> {
-    let alloc = rt.alloc();
-    assert!(rt; record_says(alloc, 3, 3, "index-0000000000000000")?);
-    assert!(rt; record_says(alloc, 2, 2, "index-0000000000000000")?);
-    assert!(rt; record_says(alloc, 2, 3, "obj-0000000000000003")?);
+    let index = "index-0000000000000000";
+    for (lo, hi, id, level) in [
+        (3, 4, 3, 0),
+        (2, 3, 2, 0),
+        (1, 2, 3, 1),
+        (2, 3, 3, 1),
+        (0, 3, 3, 1),
+        (0, 2, 3, 2),
+        (0, 2, 2, 1),
+    ] {
+        assert!(rt;
+            record_says(rt.alloc(), lo, hi, id, level, index)?,
+            "{lo} to {hi} of level {level}"
+        );
+    }
+    Ok(())
+}
+
+// They are taken, and their object isn't there.
+#[test]
+fn records_of_a_push_more_and_of_runs_are_taken(rt: HostRuntime) -> Result<(), Fail> {
+    let object = "obj-0000000000000003";
+    for (lo, hi, level) in [(2, 3, 0), (0, 1, 1), (0, 2, 1)] {
+        assert!(rt;
+            record_says(rt.alloc(), lo, hi, 3, level, object)?,
+            "{lo} to {hi} of level {level}"
+        );
+    }
+    Ok(())
+}
+
+// An index file of two records and of a third one, of level 1 and of object 3, that is else the first one of another file.
+fn with_run(two: Vec<u8>, other: &[u8]) -> Result<Vec<u8>, Fail> {
+    let mut bytes = two;
+    bytes.truncate(128);
+    for (at, byte) in other.iter().enumerate().take(64) {
+        bytes.push(match at {
+            24 => 3,
+            49 => 1,
+            _ => *byte,
+        })?;
+    }
+    Ok(bytes)
+}
+
+// A file of a disk with the pushes of both in one object.
+fn of_both(alloc: Global, file: FileId) -> Result<Vec<u8>, Fail> {
+    let mut disk = disk_with(alloc, &[("t2", 7, 0), ("t2", 4, 0)])?;
+    bytes_of(alloc, &mut disk, file)
+}
+
+fn put_run(alloc: Global, disk: &mut MemoryDisk) -> Result<(), Fail> {
+    let two = bytes_of(alloc, disk, INDEX)?;
+    let bytes = with_run(two, &of_both(alloc, INDEX)?)?;
+    replace(disk, INDEX, &bytes)
+}
+
+// A disk of two objects, and of a third one that holds the pushes of both.
+fn merged(alloc: Global) -> Result<String, Fail> {
+    let mut disk = disk_of(alloc, &[7, 4])?;
+    put_run(alloc, &mut disk)?;
+    replace(&mut disk, THIRD, &of_both(alloc, FIRST)?)?;
+    opens_to(alloc, disk)
+}
+
+fn merged_says(alloc: Global, want: &str) -> Result<bool, Fail> {
+    let text = merged(alloc)?;
+    Ok(text.as_str() == want)
+}
+
+#[test]
+fn a_record_of_a_run_stands_in_for_its_entries(rt: HostRuntime) -> Result<(), Fail> {
+    assert!(rt; merged_says(rt.alloc(), "2 0 2")?);
     Ok(())
 }
 

@@ -1,9 +1,9 @@
-use Rattle.std.proofs.Common.{◌≡◌, ◌≢◌, ◌+◌, ◌++◌, ◌<◌, ◌≤◌, inl, inr, Some, None, Err, List, ℕ, length, refl, sym, ap, ◌∙◌, subst, arith}
+use Rattle.std.proofs.Common.{refl, arith}
 use Rattle.metastore_index.specs.Entries.{IndexView}
 use Rattle.metastore_index.specs.Taken.{Takes}
 use Rattle.store_core.proofs.RoomLemmas.{applied, takes_some}
 use Rattle.store_core.proofs.PartLemmas.{commits_it, may_be_put, was_not_put, was_put}
-use Rattle.store_core.proofs.OtherLemmas.{others_put}
+use Rattle.store_core.proofs.OtherLemmas.{leaves_put, others_put, reads_put}
 use Rattle.store_core.proofs.parts.put_on.Goals as goal
 
 pub commit-requires-clause-fresh : goal.commit-requires-clause-fresh
@@ -52,8 +52,20 @@ returns-clause-any_moment g c history t kept can =
     c.commit.ensures.any_moment c.args.index.now some.0 history c.args.pushes.now t (commits_it old c.args.journal.now c.args.index.now c.args.books.now c.args.entry.now c.args.bytes.now history c.args.pushes.now kept can some.0 some.1)
 
 pub returns-clause-others : goal.returns-clause-others
-returns-clause-others g c t index =
-    others_put c.args.entry.now.id c.args.journal.now.file (g.D.Disk.view c.args.disk.now) (g.D.Disk.view c.commit.new.disk) index (c.commit.ensures.others_at_each_moment t)
+returns-clause-others g c index =
+    others_put c.args.entry.now.id c.args.journal.now.file (g.D.Disk.view c.args.disk.now) (g.D.Disk.view c.commit.new.disk) index c.commit.ensures.others_at_each_moment
+
+pub returns-in-Err-clause-others_at_each_moment : goal.returns-in-Err-clause-others_at_each_moment
+returns-in-Err-clause-others_at_each_moment g c index =
+    leaves_put c.args.entry.now.id c.args.journal.now.file (g.D.Disk.view c.args.disk.now) (g.D.Disk.view c.commit.new.disk) index c.commit.ensures.others_at_each_moment
+
+pub returns-clause-others_at_each_moment : goal.returns-clause-others_at_each_moment
+returns-clause-others_at_each_moment g c index =
+    leaves_put c.args.entry.now.id c.args.journal.now.file (g.D.Disk.view c.args.disk.now) (g.D.Disk.view c.commit.new.disk) index c.commit.ensures.others_at_each_moment
+
+pub returns-clause-others_read : goal.returns-clause-others_read
+returns-clause-others_read g c t index =
+    reads_put c.args.entry.now.id c.args.journal.now.file (g.D.Disk.view c.args.disk.now).files (g.D.Disk.view c.commit.new.disk).files index (c.in-Ok.ensures.others t)
 
 pub returns-clause-one_more : goal.returns-clause-one_more
 returns-clause-one_more g c =

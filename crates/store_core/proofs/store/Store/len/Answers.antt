@@ -12,3 +12,6 @@ pub returns-clause-told : goal.returns-clause-told
 returns-clause-told g c =
     subst (λ s. (history : List Push) → Tells (g.D.Disk.view s.disk) → HasHistory (g.D.Disk.view s.disk) s history → c.end.result ≡ length history) c.self.view_is
     (λ history t held. c.end.ensures ∙ long_as (g.D.Disk.view c.self.inside.disk) c.self.inside.journal c.self.inside.index _ c.self.inside.books c.self.inside.sure c.self.inside.records c.self.invariant history t held)
+
+pub returns-clause-small : goal.returns-clause-small
+returns-clause-small g c = omega (arith, c.end.ensures, c.self.invariant.short)

@@ -1,8 +1,8 @@
-use Rattle.std.proofs.Common.{◌∙◌}
+use Rattle.std.proofs.Common.{◌∙◌, ap, Err}
 use Rattle.std.specs.Prelude.{Contains}
 use Rattle.disk_trait.specs.Disk.{Tells}
-use Rattle.history_files.proofs.KeepLemmas.{opened_keeps}
-use Rattle.store_core.proofs.OpenLemmas.{other_has, read_images, read_keeps}
+use Rattle.history_files.proofs.KeepLemmas.{keeps_opened, opened_keeps}
+use Rattle.store_core.proofs.OpenLemmas.{other_has, read_images, read_keeps, read_reads}
 use Rattle.store_core.proofs.store.Store.open.Goals as goal
 
 pub returns-in-Ok-clause-images : goal.returns-in-Ok-clause-images
@@ -20,7 +20,7 @@ returns-in-Ok-clause-since g c history flights t quiet stands =
     let read = c.in-Ok.ensures.told t in
     record {
       has = other_has c.args.records old new c.in-Ok.journal c.in-Ok.index c.in-Ok.books read.0 read.1 c.in-Ok.ensures.journal.1 history stands t-new;
-      keeping = opened_keeps c.args.records (λ flight. Contains flights flight) old new history quiet stands c.read_all.ensures.goes_on (c.read_all.ensures.any_moment t quiet);
+      keeping = opened_keeps c.args.records (λ past flight. Contains flights (past, flight)) old new history quiet stands c.read_all.ensures.goes_on (c.read_all.ensures.any_moment t quiet);
     }
 
 pub returns-in-Ok-clause-since_opened : goal.returns-in-Ok-clause-since_opened
@@ -31,5 +31,30 @@ returns-in-Ok-clause-since_opened g c history flights t stands =
     let read = c.in-Ok.ensures.told t in
     record {
       has = other_has c.args.records old new c.in-Ok.journal c.in-Ok.index c.in-Ok.books read.0 read.1 c.in-Ok.ensures.journal.1 history stands t-new;
-      keeping = read_keeps c.args.records old new c.in-Ok.journal c.in-Ok.index c.in-Ok.books read.0 read.1 c.in-Ok.ensures.journal.1 history stands (λ flight. Contains flights flight);
+      keeping = read_keeps c.args.records old new c.in-Ok.journal c.in-Ok.index c.in-Ok.books read.0 read.1 c.in-Ok.ensures.journal.1 history stands (λ past flight. Contains flights (past, flight));
     }
+
+pub returns-in-Ok-clause-index_read : goal.returns-in-Ok-clause-index_read
+returns-in-Ok-clause-index_read g c t =
+    let old = g.D.Disk.view c.args.disk in
+    let new = g.D.Disk.view c.read_all.new.disk in
+    let read = c.in-Ok.ensures.told t in
+    read_reads c.args.records old new c.in-Ok.journal c.in-Ok.index c.in-Ok.books read.0 read.1 c.in-Ok.ensures.journal.1
+
+pub returns-in-Ok-clause-keeps : goal.returns-in-Ok-clause-keeps
+returns-in-Ok-clause-keeps g c start flights history t listed stands kept =
+    let old = g.D.Disk.view c.args.disk in
+    let new = g.D.Disk.view c.read_all.new.disk in
+    keeps_opened c.args.records start (λ past flight. Contains flights (past, flight)) old new history kept c.read_all.ensures.goes_on (c.read_all.ensures.stands_on history t stands listed)
+
+pub returns-in-Err-clause-keeps_refused : goal.returns-in-Err-clause-keeps_refused
+returns-in-Err-clause-keeps_refused g c start flights history t listed stands kept =
+    let old = g.D.Disk.view c.args.disk in
+    let new = g.D.Disk.view c.read_all.new.disk in
+    keeps_opened c.args.records start (λ past flight. Contains flights (past, flight)) old new history kept c.read_all.ensures.goes_on (c.read_all.ensures.stands_on history t stands listed)
+
+pub returns-in-Err-clause-disk_leaves : goal.returns-in-Err-clause-disk_leaves
+returns-in-Err-clause-disk_leaves g c index count t has is = c.in-Err.ensures.disk_leaves index count t has (ap Err is)
+
+pub returns-in-Err-clause-same_bodies_damaged : goal.returns-in-Err-clause-same_bodies_damaged
+returns-in-Err-clause-same_bodies_damaged g c file t listed is = c.in-Err.ensures.same_bodies_damaged file t listed (ap Err is)

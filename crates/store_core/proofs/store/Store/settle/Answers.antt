@@ -1,19 +1,21 @@
-use Rattle.std.proofs.Common.{◌≡◌, ap, sym, ◌∙◌, inl, inr, subst, List}
+use Rattle.std.proofs.Common.{◌≡◌, ◌+◌, List, length, ap, sym, ◌∙◌, inl, inr, subst}
+use Rattle.metastore_index.specs.declared.entry.Entry.{Entry}
+use Rattle.metastore_index.specs.Entries.{end_of}
 use Rattle.store_core.specs.Store.{IsFull}
-use Rattle.profile_model.specs.declared.push.Push.{Push}
+use Rattle.store_core.specs.Changes.{HasSameIndex}
 use Rattle.store_core.specs.Settling.{FirstMended, IsDoubted, IsFullFor, IsSettled}
-use Rattle.store_core.proofs.SettleLemmas.{first_mended, if_ok, with_spare}
+use Rattle.store_core.proofs.SettleLemmas.{first_mended, if_ok, on_err_weaker, with_spare}
 use Rattle.store_core.proofs.OtherLemmas.{others_again}
 use Rattle.store_core.proofs.store.Store.settle.Goals as goal
 
 pub returns-in-Ok-clause-settled : goal.returns-in-Ok-clause-settled
 returns-in-Ok-clause-settled g c history t held =
     let view = g.D.Disk.view in
-    let d = c.mend.ensures.mended history t held in
-    if_ok c.settle_sure.result (λ verdicts. IsSettled view c.mend.new.self c.settle_sure.new.self d.0 c.args.asks.items verdicts.items)
-    (λ verdicts. FirstMended view c.args.self.now history (λ between next. IsSettled view between c.settle_sure.new.self next c.args.asks.items verdicts.items))
-    (λ verdicts settled. first_mended view c.args.self.now c.mend.new.self history d (λ between next. IsSettled view between c.settle_sure.new.self next c.args.asks.items verdicts.items)
-    c.in-Ok.ensures.sure c.in-Ok.ensures.flight (λ is. (c.mend.ensures.nothing is).0) c.mend.ensures.records c.mend.ensures.limits (c.mend.ensures.index t) settled)
+    let d = c.in-Ok.ensures.mended history t held in
+    if_ok c.settle_sure.result (λ settled. IsSettled view c.mend.new.self c.settle_sure.new.self d.0 c.args.asks.items settled.verdicts.items)
+    (λ settled. FirstMended view c.args.self.now history (λ between next. IsSettled view between c.settle_sure.new.self next c.args.asks.items settled.verdicts.items))
+    (λ answer settled. first_mended view c.args.self.now c.mend.new.self history d (λ between next. IsSettled view between c.settle_sure.new.self next c.args.asks.items answer.verdicts.items)
+    c.in-Ok.ensures.sure c.in-Ok.ensures.flight (λ is. (c.mend.ensures.nothing is).0) c.mend.ensures.records c.mend.ensures.limits (c.mend.ensures.index t) (λ unsure. c.in-Ok.ensures.gone unsure t) settled)
     (c.settle_sure.ensures.settled d.0 (c.mend.ensures.goes_on.honest ∙ t) d.1.has)
 
 pub returns-in-Ok-clause-full : goal.returns-in-Ok-clause-full
@@ -26,30 +28,54 @@ returns-in-Ok-clause-full g c records back is =
       subst IsFull (sym f.0) f.3,
       λ is. f.0 ∙ (c.mend.ensures.nothing is).0,
       λ history t held.
-          let d = c.mend.ensures.mended history t held in
+          let d = c.in-Ok.ensures.mended history t held in
           first_mended view c.args.self.now c.mend.new.self history d (λ between next. (c.settle_sure.new.self ≡ between) × IsFullFor between next c.args.asks.items)
-          c.in-Ok.ensures.sure c.in-Ok.ensures.flight (λ is. (c.mend.ensures.nothing is).0) c.mend.ensures.records c.mend.ensures.limits (c.mend.ensures.index t) (f.0, f.4 d.0 (c.mend.ensures.goes_on.honest ∙ t) d.1.has),
+          c.in-Ok.ensures.sure c.in-Ok.ensures.flight (λ is. (c.mend.ensures.nothing is).0) c.mend.ensures.records c.mend.ensures.limits (c.mend.ensures.index t) (λ unsure. c.in-Ok.ensures.gone unsure t) (f.0, f.4 d.0 (c.mend.ensures.goes_on.honest ∙ t) d.1.has),
     )
 
 pub returns-in-Ok-clause-memory : goal.returns-in-Ok-clause-memory
 returns-in-Ok-clause-memory g c is history t held =
     let view = g.D.Disk.view in
-    let d = c.mend.ensures.mended history t held in
+    let d = c.in-Ok.ensures.mended history t held in
     inr (first_mended view c.args.self.now c.mend.new.self history d (λ between next. c.settle_sure.new.self ≡ with_spare between c.settle_sure.new.self.index.spare)
-    c.in-Ok.ensures.sure c.in-Ok.ensures.flight (λ is. (c.mend.ensures.nothing is).0) c.mend.ensures.records c.mend.ensures.limits (c.mend.ensures.index t) (c.settle_sure.ensures.memory is))
+    c.in-Ok.ensures.sure c.in-Ok.ensures.flight (λ is. (c.mend.ensures.nothing is).0) c.mend.ensures.records c.mend.ensures.limits (c.mend.ensures.index t) (λ unsure. c.in-Ok.ensures.gone unsure t) (c.settle_sure.ensures.memory is))
 
 pub returns-in-Ok-clause-doubted : goal.returns-in-Ok-clause-doubted
 returns-in-Ok-clause-doubted g c count is history t held =
     let view = g.D.Disk.view in
-    let d = c.mend.ensures.mended history t held in
+    let d = c.in-Ok.ensures.mended history t held in
     inr (first_mended view c.args.self.now c.mend.new.self history d (λ between next. IsDoubted view between c.settle_sure.new.self next c.args.asks.items)
-    c.in-Ok.ensures.sure c.in-Ok.ensures.flight (λ is. (c.mend.ensures.nothing is).0) c.mend.ensures.records c.mend.ensures.limits (c.mend.ensures.index t) (c.settle_sure.ensures.doubted count is d.0 (c.mend.ensures.goes_on.honest ∙ t) d.1.has))
+    c.in-Ok.ensures.sure c.in-Ok.ensures.flight (λ is. (c.mend.ensures.nothing is).0) c.mend.ensures.records c.mend.ensures.limits (c.mend.ensures.index t) (λ unsure. c.in-Ok.ensures.gone unsure t) (c.settle_sure.ensures.doubted count is d.0 (c.mend.ensures.goes_on.honest ∙ t) d.1.has))
 
 pub returns-in-Ok-clause-others : goal.returns-in-Ok-clause-others
-returns-in-Ok-clause-others g c t =
-    others_again (g.D.Disk.view c.args.self.now.disk) (g.D.Disk.view c.mend.new.self.disk) (g.D.Disk.view c.settle_sure.new.self.disk) c.mend.ensures.others
-    (c.settle_sure.ensures.others (c.mend.ensures.goes_on.honest ∙ t))
+returns-in-Ok-clause-others g c =
+    others_again (g.D.Disk.view c.args.self.now.disk) (g.D.Disk.view c.mend.new.self.disk) (g.D.Disk.view c.settle_sure.new.self.disk) c.mend.ensures.others c.settle_sure.ensures.others
 
 pub returns-in-Err-Memory-clause-memory : goal.returns-in-Err-Memory-clause-memory
 returns-in-Err-Memory-clause-memory g c is history t held =
-    let d = c.mend.ensures.mended history t held in inl (c.in-Err-Memory.ensures.unsure, d.0, d.1)
+    let d = c.mend.ensures.mended history t held in
+    inl (record { was_unsure = c.in-Err-Memory.ensures.was_unsure; is_unsure = c.in-Err-Memory.ensures.unsure; next = d.0; mended = d.1; index = c.mend.ensures.index t })
+
+pub returns-clause-doubted : goal.returns-clause-doubted
+returns-clause-doubted g c count is history t held =
+    let d = c.mend.ensures.mended history t held in
+    inl (record { was_unsure = c.in-Err-Disk.ensures.was_unsure; is_unsure = c.in-Err-Disk.ensures.unsure; next = d.0; mended = d.1; index = c.mend.ensures.index t })
+
+pub returns-in-Ok-clause-end : goal.returns-in-Ok-clause-end
+returns-in-Ok-clause-end g c none =
+    if_ok c.settle_sure.result
+    (λ settled. end_of c.settle_sure.new.self.index.entries ≡ end_of c.mend.new.self.index.entries + length settled.kept.items)
+    (λ settled. end_of c.settle_sure.new.self.index.entries ≡ end_of c.args.self.now.index.entries + length settled.kept.items)
+    (λ settled is. is ∙ ap (λ (es : List Entry). end_of es + length settled.kept.items) (c.mend.ensures.lands none).1.entries)
+    c.settle_sure.ensures.end
+
+pub returns-in-Ok-clause-same_end : goal.returns-in-Ok-clause-same_end
+returns-in-Ok-clause-same_end g c none =
+    on_err_weaker c.settle_sure.result (HasSameIndex c.mend.new.self c.settle_sure.new.self) (end_of c.settle_sure.new.self.index.entries ≡ end_of c.args.self.now.index.entries)
+    (λ same. ap end_of (same.entries ∙ (c.mend.ensures.lands none).1.entries)) c.settle_sure.ensures.same
+
+pub returns-in-Err-Memory-clause-same_end : goal.returns-in-Err-Memory-clause-same_end
+returns-in-Err-Memory-clause-same_end g c none = ap end_of (c.mend.ensures.lands none).1.entries
+
+pub returns-clause-same_end : goal.returns-clause-same_end
+returns-clause-same_end g c none = ap end_of (c.mend.ensures.lands none).1.entries

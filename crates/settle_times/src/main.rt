@@ -21,20 +21,35 @@ use tenant_books::{Limits, PushAsk};
 const RECORDS: u64 = 1 << 20;
 
 const USAGE: &str =
-    "usage: settle_times TIMES TOGETHER, with the folded text of a push on standard input";
+    "usage: settle_times TIMES TOGETHER [made], with the folded text of a push on standard input";
+
+// What is done: so many times, the push so often together.
+#[derive(Clone, Copy)]
+struct Work {
+    times: u32,
+    together: u32,
+    /// Whether the pushes are settled, or only made.
+    settles: bool,
+}
 
 fn main(rt: HostRuntime) -> io::Result<()> {
-    match numbers_of(&words_of(&rt)?) {
-        Some((times, together)) => settle_all(&rt, times, together),
+    match work_of(&words_of(&rt)?) {
+        Some(work) => do_all(&rt, work),
         None => println!(rt; "{USAGE}"),
     }
 }
 
-fn numbers_of(words: &[String]) -> Option<(u32, u32)> {
-    let [times, together] = words else {
-        return None;
+fn work_of(words: &[String]) -> Option<Work> {
+    let (times, together, settles) = match words {
+        [times, together] => (times, together, true),
+        [times, together, word] if word.as_str() == "made" => (times, together, false),
+        _ => return None,
     };
-    Some((times.parse::<u32>().ok()?, together.parse::<u32>().ok()?))
+    Some(Work {
+        times: times.parse::<u32>().ok()?,
+        together: together.parse::<u32>().ok()?,
+        settles,
+    })
 }
 
 // The words after the program's name.
@@ -46,9 +61,9 @@ fn words_of(rt: &HostRuntime) -> io::Result<Vec<String>> {
     Ok(words)
 }
 
-fn settle_all(rt: &HostRuntime, times: u32, together: u32) -> io::Result<()> {
+fn do_all(rt: &HostRuntime, work: Work) -> io::Result<()> {
     let text = input(rt)?;
-    let kept = settle_times(rt, &text, times, together)?;
+    let kept = do_times(rt, &text, work)?;
     println!(rt; "{kept} pushes")
 }
 
@@ -59,14 +74,17 @@ fn input(rt: &HostRuntime) -> io::Result<Vec<u8>> {
 }
 
 // How many pushes the store has at the end.
-fn settle_times(rt: &HostRuntime, text: &[u8], times: u32, together: u32) -> io::Result<u64> {
+fn do_times(rt: &HostRuntime, text: &[u8], work: Work) -> io::Result<u64> {
     let alloc = rt.alloc();
     let disk = DirDisk::new(rt.clone()?);
     let Ok(mut store) = Store::open(alloc, disk, Limits::usual(alloc), RECORDS) else {
         return Err(io::Error::other("the folder wasn't opened"));
     };
-    for _ in 0..times {
-        settle_once(alloc, &mut store, asks(alloc, text, together)?)?;
+    for _ in 0..work.times {
+        let asks = asks(alloc, text, work.together)?;
+        if work.settles {
+            settle_once(alloc, &mut store, asks)?;
+        }
     }
     Ok(store.len())
 }

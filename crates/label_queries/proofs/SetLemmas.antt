@@ -1,6 +1,10 @@
 -- The sets of some profiles, and of one more.
-use Rattle.std.proofs.Common.{◌≡◌, List, [], ◌∷◌, ◌++◌, map, fold, filter, Bool, true, false, cond, refl, sym, ap, ◌∙◌}
+use Rattle.std.proofs.Common.{◌≡◌, List, [], ◌∷◌, ◌++◌, ◌||◌, map, fold, filter, Bool, true, false, cond, Ordering, Less, Equal, Greater, refl, sym, ap, ◌∙◌, true≢false}
 use Rattle.std.specs.BTreeSet.{insert_key}
+use Rattle.std.specs.Cmp.{IsTotalOrder}
+use Rattle.std.specs.List.{AllByRecursion, list_any}
+use Rattle.std.specs.List.Sorted.{IsStrictlySortedBy}
+use Rattle.std.specs.Ordering.{eq_by_cmp, is_eq, match_ordering}
 use Rattle.std.proofs.lemmas.List.{map-append}
 use Rattle.std.proofs.lemmas.List.Elements.{filter-append}
 use Rattle.std.proofs.lemmas.List.Sums.{fold-append}
@@ -42,3 +46,29 @@ pub added : (selectors : List (List Matching)) (old new : Gathered) (profiles : 
     → new ≡ record { selectors = selectors; sets = label_sets_of selectors (profiles ++ profile ∷ []) }
 added selectors old new profiles profile before is = is ∙ ap (λ gathered. with_profile gathered profile) before
     ∙ one_profile_more selectors profiles profile
+
+-- ---- sets that are there
+
+module _ {A : Type 0} {cmp : A → A → Ordering} (o : IsTotalOrder cmp) where
+  pub none_above : (x : A) (ys : List A) → AllByRecursion (λ y. cmp x y ≡ Less) ys → list_any (eq_by_cmp cmp x) ys ≡ false
+  none_above x [] above = refl
+  none_above x (y ∷ ys) above = ap (λ (r : Ordering). is_eq r || list_any (eq_by_cmp cmp x) ys) above.0 ∙ none_above x ys above.1
+
+  pub below_all : (x y : A) (ys : List A) → cmp x y ≡ Less → AllByRecursion (λ z. cmp y z ≡ Less) ys → AllByRecursion (λ z. cmp x z ≡ Less) ys
+  below_all x y [] below above = tt
+  below_all x y (z ∷ zs) below above = (o.trans x y z below above.0, below_all x y zs below above.1)
+
+  -- one that is there isn't put in again
+  pub there : (x : A) (ys : List A) → IsStrictlySortedBy cmp ys → list_any (eq_by_cmp cmp x) ys ≡ true → insert_key cmp ys x ≡ ys
+  unfolding IsStrictlySortedBy
+  there x [] sorted has = absurd (true≢false (sym has))
+  there x (y ∷ ys) sorted has = by (cmp x y) refl (there x ys sorted.1)
+    where
+      by : (r : Ordering) → cmp x y ≡ r → (list_any (eq_by_cmp cmp x) ys ≡ true → insert_key cmp ys x ≡ ys)
+          → match_ordering r (x ∷ y ∷ ys) (y ∷ ys) (y ∷ insert_key cmp ys x) ≡ y ∷ ys
+      by Less is later =
+          let none : list_any (eq_by_cmp cmp x) (y ∷ ys) ≡ false =
+          ap (λ (r : Ordering). is_eq r || list_any (eq_by_cmp cmp x) ys) is ∙ none_above x ys (below_all x y ys is sorted.0) in
+          absurd (true≢false (sym has ∙ none))
+      by Equal is later = refl
+      by Greater is later = ap (λ (zs : List A). y ∷ zs) (later (sym (ap (λ (r : Ordering). is_eq r || list_any (eq_by_cmp cmp x) ys) is) ∙ has))

@@ -1,6 +1,8 @@
 // The label sets of the profiles that are asked for.
-ghost use Rattle.std.specs.Prelude.{◌≡◌, [], IfOk, OnErr, OnOk, map};
+ghost use Rattle.std.specs.Prelude.{◌≡◌, [], IfOk, IsTrue, OnErr, OnOk, map};
+ghost use Rattle.std.specs.BTreeSet.{insert_key};
 ghost use Rattle.std.specs.List.{list_any};
+ghost use Rattle.profile_model.specs.LabelOrder.{labels_cmp};
 ghost use Rattle.selector.specs.Matching.{matches};
 ghost use Rattle.label_queries.specs.Labels.{is_asked, label_names_of, label_values_of, series_of};
 
@@ -48,10 +50,34 @@ impl LabelSets {
         ensures ok { OnOk result (self.new ≡ with_profile self.old profile.now) }
         ensures err { OnErr result (self.new ≡ self.old) }
     {
-        if is_asked(&mut self.selectors, profile)? {
-            self.sets.insert(shown_labels(self.alloc, profile)?)?;
+        let set = shown_labels(self.alloc, profile)?;
+        // The profiles of one series come again and again: where the set is there, selectors aren't judged again.
+        if !is_there(&self.sets, &set) && is_asked(&mut self.selectors, profile)? {
+            self.sets.insert(set)?;
         }
         Ok(())
+    }
+
+    /// The sets.
+    pub fn sets(&self) -> &BTreeSet<LabelSet>
+        ensures { result.now.keys ≡ self.now.sets }
+    {
+        &self.sets
+    }
+
+    /// Takes these as the sets, which were copied before profiles were added.
+    pub fn put_back(&mut self, sets: BTreeSet<LabelSet>)
+        ensures selectors { self.new.selectors ≡ self.old.selectors }
+        ensures sets { self.new.sets ≡ sets.keys }
+    {
+        self.sets = sets;
+    }
+
+    /// The sets, ascending, none twice.
+    pub fn list(self) -> Result<Vec<LabelSet>, AllocError>
+        ensures { IfOk result (λ sets. sets.items ≡ self.sets) }
+    {
+        self.sets.into_iter().collect(self.alloc)
     }
 
     /// The names of labels that any set has, ascending.
@@ -75,6 +101,13 @@ impl LabelSets {
     {
         series_in(self.alloc, &self.sets, names)
     }
+}
+
+// Whether the set is one of these, so that it isn't put in again.
+fn is_there(sets: &BTreeSet<LabelSet>, set: &LabelSet) -> bool
+    ensures { IsTrue result → insert_key labels_cmp sets.now.keys set.now ≡ sets.now.keys }
+{
+    sets.len() > 0 && sets.contains(set)
 }
 
 /// Whether any of the selectors matches the profile, or there are none.

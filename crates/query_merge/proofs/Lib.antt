@@ -1,7 +1,6 @@
 pub mod CloneLemmas
 pub mod SpanLemmas
 pub mod TypeLemmas
-pub mod SetLemmas
 pub mod AskedLemmas
 pub mod SumLemmas
 pub mod PlotLemmas
@@ -9,3 +8,4 @@ pub mod GroupLemmas
 pub mod OrderLemmas
 pub mod QueryLemmas
 pub mod OnceLemmas
+pub mod PartLemmas

@@ -9,6 +9,7 @@ use Rattle.std.specs.Ordering.{eq_by_cmp, is_eq, ordering_reverse}
 use Rattle.std.proofs.lemmas.List.Sorted.{All-permutation, Contains-permutation, IsPermutation-map, length_permutation, list_any-IsPermutation, sum_by-IsPermutation}
 use Rattle.std.proofs.lemmas.List.Sums.{sum_by-cons}
 use Rattle.label_queries.proofs.OrderLemmas.{ascending_are_members}
+use Rattle.label_queries.proofs.SetLemmas.{below_all, none_above}
 use Rattle.label_queries.specs.Labels.{is_asked, shown_labels}
 use Rattle.label_queries.specs.Ordered.{ascending}
 use Rattle.profile_model.proofs.SumLawLemmas.{sums_of-any_order}
@@ -27,7 +28,6 @@ use Rattle.query_merge.specs.Plotted.{counts_at, total_of_any}
 use Rattle.query_merge.specs.Rows.{times_of}
 use Rattle.query_merge.specs.TypeLists.{type_texts_of}
 use Rattle.query_merge.proofs.AskedLemmas.{labels_decide}
-use Rattle.query_merge.proofs.SetLemmas.{below_all, none_above}
 use Rattle.query_merge.proofs.SumLemmas.{eq_is, value_in-append}
 
 -- ---- members in order

@@ -1,18 +1,30 @@
 -- What holds of all rows, in whatever order they come.
-use Rattle.std.specs.Prelude.{◌≡◌, ℕ, ◌+◌, ◌*◌, ◌<◌, ◌≤◌, List, Ok, Option}
+use Rattle.std.specs.Prelude.{◌≡◌, ℕ, ◌+◌, ◌*◌, ◌<◌, ◌≤◌, ◌++◌, List, [], ◌∷◌, Ok, Option}
 use Rattle.std.specs.List.Sorted.{IsPermutation}
 use Rattle.label_queries.specs.Labels.{label_sets_of}
+use Rattle.profile_model.specs.Limits.{total_bound}
+use Rattle.profile_model.specs.Pushes.{profiles_total}
 use Rattle.profile_model.specs.TypeTexts.{type_text}
 use Rattle.profile_model.specs.declared.kind.ProfileType.{ProfileType}
+use Rattle.profile_model.specs.declared.part_ask.PartAsk.{PartAsk}
 use Rattle.profile_model.specs.declared.profile.Profile.{Profile}
+use Rattle.profile_model.specs.declared.push.Push.{Push}
+use Rattle.push_history.specs.History.{HasBoundedTotals}
+use Rattle.segment_file.specs.Parts.{PartView, part_of}
 use Rattle.selector.specs.Matching.{Matching}
 use Rattle.selector.specs.Read.{IsReadQuery}
 use Rattle.selector.specs.declared.query.Query.{Query}
 use Rattle.query_merge.specs.Asked.{stacks_of}
 use Rattle.query_merge.specs.Grid.{point_of, width_of}
 use Rattle.query_merge.specs.Plotted.{AreSeriesOf, Group, Plot}
+use Rattle.query_merge.specs.Rows.{profiles_of, profiles_of_parts}
 use Rattle.query_merge.specs.Spans.{IsSpanOf}
 use Rattle.query_merge.specs.TypeLists.{types_of}
+
+-- parts in any order have the same profiles, in some order
+abbrev pub PartsInAnyOrder : Type 0
+PartsInAnyOrder =
+    (parts others : List PartView) → IsPermutation parts others → IsPermutation (profiles_of_parts parts) (profiles_of_parts others)
 
 abbrev pub SpanInAnyOrder : Type 0
 SpanInAnyOrder = (profiles others : List Profile) (span : Option (ℕ × ℕ)) → IsPermutation profiles others → IsSpanOf profiles span → IsSpanOf others span
@@ -32,6 +44,20 @@ abbrev pub SeriesInAnyOrder : Type 0
 SeriesInAnyOrder =
     (plot : Plot) (profiles others : List Profile) (groups : List Group) → IsPermutation profiles others
     → AreSeriesOf plot profiles groups → AreSeriesOf plot others groups
+
+-- ---- totals
+
+-- what an ask finds in a history from push number `from` on, part by part: each begins where the one before it ended
+abbrev pub ArePartsFrom : List Push → PartAsk → ℕ → List PartView → Type 0
+ArePartsFrom history ask from [] = Unit {0}
+ArePartsFrom history ask from (part ∷ parts) =
+    (part ≡ part_of 0 history from part.until ask) × (from ≤ part.until) × ArePartsFrom history ask part.until parts
+
+-- all values of the parts so far and of the next stay below the bound
+abbrev pub PartsStayBounded : Type 0
+PartsStayBounded =
+    (history : List Push) (ask : PartAsk) (parts : List PartView) (next : PartView) → HasBoundedTotals history
+    → ArePartsFrom history ask 0 (parts ++ next ∷ []) → profiles_total (profiles_of_parts parts) + profiles_total (profiles_of next.rows) < total_bound
 
 -- ---- answers are told once
 

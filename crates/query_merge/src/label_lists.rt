@@ -1,27 +1,22 @@
 // Which label sets rows have.
-ghost use Rattle.std.specs.Prelude.{◌≡◌, ◌++◌, List, [], ◌∷◌, IfOk, OnErr, OnOk, if◌then◌else◌};
-ghost use Rattle.std.specs.BTreeSet.{insert_key};
-ghost use Rattle.profile_model.specs.LabelOrder.{labels_cmp};
+ghost use Rattle.std.specs.Prelude.{◌≡◌, ◌++◌, List, [], IfOk, OnErr, OnOk, map};
 ghost use Rattle.profile_model.specs.declared.profile.Profile.{Profile};
-ghost use Rattle.label_queries.specs.Labels.{is_asked, label_sets_of};
+ghost use Rattle.label_queries.specs.Labels.{label_names_of, label_sets_of, label_values_of, series_of};
 ghost use Rattle.query_merge.specs.Rows.{profiles_of};
 ghost use Rattle.query_merge.specs.SetLists.{AreSetsOf};
 
-use label_queries::{is_asked, shown_labels};
-use profile_model::{LabelSet, Profile};
+use label_queries::LabelSets;
+use profile_model::{LabelSet, Name};
 use segment_file::{Part, Row};
 use selector::Selector;
 use std::alloc::{AllocError, Global};
-use std::collections::BTreeSet;
 use std::marker::Model;
 
 /// Selectors, and the distinct label sets of the rows that were added and that any of them matches; of all rows where
 /// there are no selectors. A set has the two labels that tell the profile's type.
 #[derive(Drop)]
 pub struct LabelLists {
-    alloc: Global,
-    matchers: Vec<Selector>,
-    sets: BTreeSet<LabelSet>,
+    lists: LabelSets,
 }
 
 impl Model for LabelLists {
@@ -29,7 +24,7 @@ impl Model for LabelLists {
 
     ghost Value = { Gathered };
 
-    ghost view = { λ l. record { selectors = l.matchers.items; sets = l.sets.keys } };
+    ghost view = { λ l. l.lists };
 }
 
 impl LabelLists {
@@ -39,9 +34,7 @@ impl LabelLists {
         ensures none { AreSetsOf result [] }
     {
         LabelLists {
-            alloc,
-            matchers,
-            sets: BTreeSet::new(alloc),
+            lists: LabelSets::new(alloc, matchers),
         }
     }
 
@@ -51,66 +44,56 @@ impl LabelLists {
         ensures selectors { self.new.selectors ≡ self.old.selectors }
         ensures err { OnErr result (self.new ≡ self.old) }
     {
-        let mut sets = self.sets.clone()?;
-        add_sets(self.alloc, &mut self.matchers, &mut sets, &part.rows)?;
-        self.sets = sets;
-        Ok(())
+        let before = self.lists.sets().clone()?;
+        match add_rows(&mut self.lists, &part.rows) {
+            Ok(()) => Ok(()),
+            Err(refused) => {
+                self.lists.put_back(before);
+                Err(refused)
+            }
+        }
+    }
+
+    /// The names of labels that any of the sets has, ascending.
+    pub fn names(&self) -> Result<Vec<Name>, AllocError>
+        ensures { (profiles : List Profile) → AreSetsOf self.now profiles
+            → IfOk result (λ names. names.items ≡ label_names_of (label_sets_of self.now.selectors profiles)) }
+    {
+        self.lists.names()
+    }
+
+    /// The values of a label in the sets that have it, ascending.
+    pub fn values(&self, name: &str) -> Result<Vec<Name>, AllocError>
+        ensures { (profiles : List Profile) → AreSetsOf self.now profiles
+            → IfOk result (λ values. values.items ≡ label_values_of name.now (label_sets_of self.now.selectors profiles)) }
+    {
+        self.lists.values(name)
+    }
+
+    /// The sets cut to these names, ascending; whole sets where there are no names.
+    pub fn series(&self, names: &[&str]) -> Result<Vec<Vec<(Name, Name)>>, AllocError>
+        ensures { (profiles : List Profile) → AreSetsOf self.now profiles
+            → IfOk result (λ series. map (λ set. set.items) series.items
+            ≡ series_of (map (λ name. name.now) names.now) (label_sets_of self.now.selectors profiles)) }
+    {
+        self.lists.series(names)
     }
 
     /// The sets, ascending, none twice.
     pub fn sets(self) -> Result<Vec<LabelSet>, AllocError>
         ensures { (profiles : List Profile) → AreSetsOf self profiles → IfOk result (λ sets. sets.items ≡ label_sets_of self.selectors profiles) }
     {
-        self.sets.into_iter().collect(self.alloc)
+        self.lists.list()
     }
 }
 
-fn add_sets(
-    alloc: Global,
-    matchers: &mut Vec<Selector>,
-    sets: &mut BTreeSet<LabelSet>,
-    rows: &[Row],
-) -> Result<(), AllocError>
-    ensures sets { (profiles : List Profile) → sets.old.keys ≡ label_sets_of matchers.old.items profiles
-        → OnOk result (sets.new.keys ≡ label_sets_of matchers.old.items (profiles ++ profiles_of rows.now)) }
-    ensures unchanged { matchers.new.items ≡ matchers.old.items }
+// Want of memory may leave some of the rows added.
+fn add_rows(lists: &mut LabelSets, rows: &[Row]) -> Result<(), AllocError>
+    ensures more { (profiles : List Profile) → AreSetsOf lists.old profiles → OnOk result (AreSetsOf lists.new (profiles ++ profiles_of rows.now)) }
+    ensures selectors { lists.new.selectors ≡ lists.old.selectors }
 {
     for row in rows {
-        add_set(alloc, matchers, sets, &row.profile)?;
-    }
-    Ok(())
-}
-
-fn add_set(
-    alloc: Global,
-    matchers: &mut Vec<Selector>,
-    sets: &mut BTreeSet<LabelSet>,
-    profile: &Profile,
-) -> Result<(), AllocError>
-    ensures sets { (profiles : List Profile) → sets.old.keys ≡ label_sets_of matchers.old.items profiles
-        → OnOk result (sets.new.keys ≡ label_sets_of matchers.old.items (profiles ++ profile.now ∷ [])) }
-    ensures unchanged { matchers.new.items ≡ matchers.old.items }
-{
-    let set = shown_labels(alloc, profile)?;
-    // The profiles of one series come again and again: where the set is there, selectors aren't judged again.
-    if sets.contains(&set) {
-        return Ok(());
-    }
-    put_if_asked(matchers, sets, set, profile)
-}
-
-// Puts the profile's set in its place, if the profile is asked for.
-fn put_if_asked(
-    matchers: &mut Vec<Selector>,
-    sets: &mut BTreeSet<LabelSet>,
-    set: LabelSet,
-    profile: &Profile,
-) -> Result<(), AllocError>
-    ensures sets { OnOk result (sets.new.keys ≡ (if is_asked matchers.old.items profile.now then insert_key labels_cmp sets.old.keys set else sets.old.keys)) }
-    ensures unchanged { matchers.new.items ≡ matchers.old.items }
-{
-    if is_asked(matchers, profile)? {
-        sets.insert(set)?;
+        lists.add(&row.profile)?;
     }
     Ok(())
 }

@@ -25,39 +25,52 @@ const START: u64 = 1_700_000_000_000;
 
 const MAX_VALUES: u64 = 1_000_000;
 
-// A row: the value of the label `env`, the type, the milliseconds after the first time, and a stack of one frame with its
-// value; none where it is 0.
+// A row: the service, the type, the milliseconds after the first time, and a stack, its frames between `;`, with its value;
+// none where it is 0.
 type Sample = (&'static str, &'static str, u64, &'static str, u64);
 
 const EARLY: [Sample; 3] = [
-    ("prod", CPU, 0, "a", 1),
-    ("dev", CPU, 10_000, "b", 2),
-    ("prod", HEAP, 5_000, "a", 64),
+    ("shop", CPU, 0, "a", 1),
+    ("bank", CPU, 10_000, "b", 2),
+    ("shop", HEAP, 5_000, "a", 64),
 ];
 
 const LATE: [Sample; 3] = [
-    ("prod", CPU, 15_000, "b", 4),
-    ("prod", CPU, 20_000, "a", 8),
-    ("test", CPU, 31_000, "a", 0),
+    ("shop", CPU, 15_000, "b", 4),
+    ("shop", CPU, 20_000, "a", 8),
+    ("till", CPU, 31_000, "a", 0),
 ];
 
-fn stack(alloc: Global, frame: &str) -> Result<Stack, Fail> {
+const ONCE: [Sample; 3] = [
+    ("app", CPU, 0, "main", 2),
+    ("app", CPU, 0, "main;a", 3),
+    ("app", CPU, 0, "main;b", 5),
+];
+
+fn names(alloc: Global, text: &str) -> Result<Vec<Name>, Fail> {
     let mut names = Vec::new(alloc);
-    names.push(Name::from_text(alloc, frame)?)?;
+    for name in text.split(';') {
+        names.push(Name::from_text(alloc, name)?)?;
+    }
+    Ok(names)
+}
+
+fn stack(alloc: Global, frames: &str) -> Result<Stack, Fail> {
+    let names = names(alloc, frames)?;
     Ok(Stack::from_frames(ArcSlice::from_vec(names)?)?)
 }
 
-fn sums(alloc: Global, frame: &str, value: u64) -> Result<StackSums, Fail> {
+fn sums(alloc: Global, frames: &str, value: u64) -> Result<StackSums, Fail> {
     let mut sums = StackSums::new(alloc);
-    sums.add(stack(alloc, frame)?, value)?;
+    sums.add(stack(alloc, frames)?, value)?;
     Ok(sums)
 }
 
-fn labels(alloc: Global, env: &str) -> Result<LabelSet, Fail>
+fn labels(alloc: Global, service: &str) -> Result<LabelSet, Fail>
     ensures { IfOk result AreProfileLabels }
 {
     let mut pairs = Vec::new(alloc);
-    for (name, value) in [("env", env), ("__name__", "own")] {
+    for (name, value) in [("service_name", service), ("__name__", "own")] {
         pairs.push((
             Name::from_text(alloc, name)?,
             Name::from_text(alloc, value)?,
@@ -116,10 +129,11 @@ fn are_early(rows: &[Row]) -> bool
 
 // ---- spans of time
 
-fn span_of(alloc: Global, first: &[Sample], second: &[Sample]) -> Result<Option<(u64, u64)>, Fail> {
+fn span_of(alloc: Global, parts: &[&[Sample]]) -> Result<Option<(u64, u64)>, Fail> {
     let mut stats = Stats::new();
-    stats.add(&part(alloc, first)?);
-    stats.add(&part(alloc, second)?);
+    for samples in parts {
+        stats.add(&part(alloc, samples)?);
+    }
     Ok(stats.span())
 }
 
@@ -127,10 +141,10 @@ fn span_of(alloc: Global, first: &[Sample], second: &[Sample]) -> Result<Option<
 fn a_span_is_from_the_oldest_to_the_newest(rt: HostRuntime) -> Result<(), Fail> {
     let alloc = rt.alloc();
     let whole = Some((START, 1_700_000_031_000));
-    assert_eq!(rt; span_of(alloc, &EARLY, &LATE)?, whole);
-    assert_eq!(rt; span_of(alloc, &LATE, &EARLY)?, whole);
-    assert_eq!(rt; span_of(alloc, &EARLY[..1], &[])?, Some((START, START)));
-    assert_eq!(rt; span_of(alloc, &[], &[])?, None);
+    assert_eq!(rt; span_of(alloc, &[&EARLY, &LATE])?, whole);
+    assert_eq!(rt; span_of(alloc, &[&LATE, &EARLY])?, whole);
+    assert_eq!(rt; span_of(alloc, &[&ONCE, &[]])?, Some((START, START)));
+    assert_eq!(rt; span_of(alloc, &[&[], &[]])?, None);
     Ok(())
 }
 
@@ -144,28 +158,28 @@ fn types_of(alloc: Global, parts: &[&[Sample]]) -> Result<Vec<ProfileType>, Fail
     Ok(types.list()?)
 }
 
-fn types_text(alloc: Global, parts: &[&[Sample]]) -> Result<String, Fail> {
-    let mut text = String::new(alloc);
-    for kind in &types_of(alloc, parts)? {
-        text = format!(in alloc; "{text}{kind};")?;
-    }
-    Ok(text)
+fn is_type(alloc: Global, kind: &ProfileType, text: &str) -> Result<bool, Fail> {
+    let expected = ProfileType::read(alloc, text)?;
+    Ok(*kind == expected)
 }
 
-fn lists_types(alloc: Global, parts: &[&[Sample]], expected: &str) -> Result<bool, Fail> {
-    let text = types_text(alloc, parts)?;
-    Ok(text.as_str() == expected)
+fn lists_types(alloc: Global, parts: &[&[Sample]], expected: &[&str]) -> Result<bool, Fail> {
+    let types = types_of(alloc, parts)?;
+    let mut same = types.len() == expected.len();
+    for (kind, text) in types.iter().zip(expected) {
+        same = same && is_type(alloc, kind, text)?;
+    }
+    Ok(same)
 }
 
 #[test]
 fn types_are_listed_once_ascending(rt: HostRuntime) -> Result<(), Fail> {
     let alloc = rt.alloc();
-    let cpu = "process_cpu:samples:count:cpu:nanoseconds;";
-    let both = "memory:space:bytes:space:bytes;process_cpu:samples:count:cpu:nanoseconds;";
-    assert!(rt; lists_types(alloc, &[&EARLY, &LATE], both)?);
-    assert!(rt; lists_types(alloc, &[&LATE, &EARLY, &LATE], both)?);
-    assert!(rt; lists_types(alloc, &[&LATE, &[], &LATE], cpu)?);
-    assert!(rt; lists_types(alloc, &[&[], &[]], "")?);
+    assert!(rt; lists_types(alloc, &[&EARLY, &LATE], &[HEAP, CPU])?);
+    assert!(rt; lists_types(alloc, &[&LATE, &EARLY, &LATE], &[HEAP, CPU])?);
+    assert!(rt; lists_types(alloc, &[&LATE, &[], &LATE], &[CPU])?);
+    assert!(rt; lists_types(alloc, &[&ONCE], &[CPU])?);
+    assert!(rt; lists_types(alloc, &[&[], &[]], &[])?);
     Ok(())
 }
 
@@ -209,12 +223,27 @@ fn added(
     Ok(merge.stacks())
 }
 
-fn sums_text(alloc: Global, sums: &StackSums) -> Result<String, Fail> {
-    let mut text = String::new(alloc);
-    for (stack, value) in sums.iter() {
-        text = format!(in alloc; "{text}{stack} {value};")?;
+fn is_stack(stack: &Stack, expected: &str) -> bool {
+    let mut frames = stack.frames().iter();
+    let mut same = true;
+    for expected in expected.split(';') {
+        same = match frames.next() {
+            Some(frame) => same && frame.as_str() == expected,
+            None => false,
+        };
     }
-    Ok(text)
+    same && frames.next().is_none()
+}
+
+// A stack, its frames between `;`, and its value.
+type Sum = (&'static str, u64);
+
+fn are_sums(sums: &StackSums, expected: &[Sum]) -> bool {
+    let mut same = sums.len() == expected.len();
+    for ((stack, value), (frames, number)) in sums.iter().zip(expected) {
+        same = same && is_stack(stack, frames) && *value == *number;
+    }
+    same
 }
 
 fn adds_up(
@@ -222,21 +251,24 @@ fn adds_up(
     query: &str,
     first: &[Sample],
     second: &[Sample],
-    expected: &str,
+    expected: &[Sum],
 ) -> Result<bool, Fail> {
     let sums = added(alloc, query, first, second)?;
-    Ok(sums_text(alloc, &sums)?.as_str() == expected)
+    Ok(are_sums(&sums, expected))
 }
 
 #[test]
 fn stacks_of_the_querys_type_that_match_are_summed(rt: HostRuntime) -> Result<(), Fail> {
     let alloc = rt.alloc();
-    assert!(rt; adds_up(alloc, CPU, &EARLY, &LATE, "a 9;b 6;")?);
-    assert!(rt; adds_up(alloc, CPU, &LATE, &EARLY, "a 9;b 6;")?);
-    assert!(rt; adds_up(alloc, HEAP, &EARLY, &LATE, "a 64;")?);
-    let production = "process_cpu:samples:count:cpu:nanoseconds{env=\"prod\"}";
-    assert!(rt; adds_up(alloc, production, &EARLY, &LATE, "a 9;b 4;")?);
-    assert!(rt; adds_up(alloc, "a:b:c:d:e", &EARLY, &LATE, "")?);
+    let all = [("a", 9), ("b", 6)];
+    assert!(rt; adds_up(alloc, CPU, &EARLY, &LATE, &all)?);
+    assert!(rt; adds_up(alloc, CPU, &LATE, &EARLY, &all)?);
+    assert!(rt; adds_up(alloc, HEAP, &EARLY, &LATE, &[("a", 64)])?);
+    let once = [("main", 2), ("main;a", 3), ("main;b", 5)];
+    assert!(rt; adds_up(alloc, CPU, &ONCE, &[], &once)?);
+    let shop = "process_cpu:samples:count:cpu:nanoseconds{service_name=\"shop\"}";
+    assert!(rt; adds_up(alloc, shop, &EARLY, &LATE, &[("a", 9), ("b", 4)])?);
+    assert!(rt; adds_up(alloc, "a:b:c:d:e", &EARLY, &LATE, &[])?);
     Ok(())
 }
 
@@ -249,7 +281,7 @@ type Value = (&'static str, u64);
 fn part_of_stack(alloc: Global, stack: &Stack, values: &[Value]) -> Result<Part, Fail> {
     let mut part = part(alloc, &[])?;
     for (kind, value) in values {
-        let mut profile = profile(alloc, &("prod", *kind, 0, "none", 0))?;
+        let mut profile = profile(alloc, &("shop", *kind, 0, "none", 0))?;
         profile.values.add(stack.clone()?, *value)?;
         part.rows.push(Row {
             push: 0,
@@ -264,22 +296,22 @@ fn shared_adds_up(
     alloc: Global,
     first: &[Value],
     second: &[Value],
-    expected: &str,
+    expected: u64,
 ) -> Result<bool, Fail> {
     let stack = stack(alloc, "a")?;
     let mut merge = merge_of(alloc, CPU)?;
     add_part(&mut merge, &part_of_stack(alloc, &stack, first)?)?;
     add_part(&mut merge, &part_of_stack(alloc, &stack, second)?)?;
-    Ok(sums_text(alloc, &merge.stacks())?.as_str() == expected)
+    Ok(are_sums(&merge.stacks(), &[("a", expected)]))
 }
 
 #[test]
 fn each_value_of_a_shared_stack_counts_once(rt: HostRuntime) -> Result<(), Fail> {
     let alloc = rt.alloc();
     let many = [(CPU, 1), (HEAP, 64), (CPU, 2), (CPU, 4)];
-    assert!(rt; shared_adds_up(alloc, &many, &[], "a 7;")?);
-    assert!(rt; shared_adds_up(alloc, &many, &many, "a 14;")?);
-    assert!(rt; shared_adds_up(alloc, &many[..2], &many[1..3], "a 3;")?);
+    assert!(rt; shared_adds_up(alloc, &many, &[], 7)?);
+    assert!(rt; shared_adds_up(alloc, &many, &many, 14)?);
+    assert!(rt; shared_adds_up(alloc, &many[..2], &many[1..3], 3)?);
     Ok(())
 }
 
@@ -293,31 +325,41 @@ fn selectors(alloc: Global, texts: &[&str]) -> Result<Vec<Selector>, Fail> {
     Ok(selectors)
 }
 
-fn sets_of(
-    alloc: Global,
-    texts: &[&str],
-    first: &[Sample],
-    second: &[Sample],
-) -> Result<Vec<LabelSet>, Fail> {
+fn lists_of(alloc: Global, texts: &[&str], parts: &[&[Sample]]) -> Result<LabelLists, Fail> {
     let mut lists = LabelLists::new(alloc, selectors(alloc, texts)?);
-    lists.add(&part(alloc, first)?)?;
-    lists.add(&part(alloc, second)?)?;
-    Ok(lists.sets()?)
-}
-
-fn set_text(alloc: Global, set: &LabelSet) -> Result<String, Fail> {
-    let mut text = String::new(alloc);
-    for (name, value) in set.pairs() {
-        text = format!(in alloc; "{text}{name}={value} ")?;
+    for samples in parts {
+        lists.add(&part(alloc, samples)?)?;
     }
-    Ok(text)
+    Ok(lists)
 }
 
-fn lists_sets(alloc: Global, texts: &[&str], expected: &[&str]) -> Result<bool, Fail> {
-    let sets = sets_of(alloc, texts, &EARLY, &LATE)?;
+fn are_pairs(pairs: &[(Name, Name)], expected: &[(&str, &str)]) -> bool {
+    let mut same = pairs.len() == expected.len();
+    for ((name, value), (label, text)) in pairs.iter().zip(expected) {
+        same = same && name.as_str() == *label && value.as_str() == *text;
+    }
+    same
+}
+
+// The name of a type, its text, and the service.
+type Set = (&'static str, &'static str, &'static str);
+
+fn is_set(pairs: &[(Name, Name)], expected: &Set) -> bool {
+    are_pairs(
+        pairs,
+        &[
+            ("__name__", expected.0),
+            ("__profile_type__", expected.1),
+            ("service_name", expected.2),
+        ],
+    )
+}
+
+fn lists_sets(alloc: Global, texts: &[&str], expected: &[Set]) -> Result<bool, Fail> {
+    let sets = lists_of(alloc, texts, &[&EARLY, &LATE])?.sets()?;
     let mut same = sets.len() == expected.len();
     for (set, expected) in sets.iter().zip(expected) {
-        same = same && set_text(alloc, set)?.as_str() == *expected;
+        same = same && is_set(set.pairs(), expected);
     }
     Ok(same)
 }
@@ -325,22 +367,54 @@ fn lists_sets(alloc: Global, texts: &[&str], expected: &[&str]) -> Result<bool, 
 #[test]
 fn label_sets_tell_the_type_and_are_listed_once(rt: HostRuntime) -> Result<(), Fail> {
     let alloc = rt.alloc();
-    let heap = "__name__=memory __profile_type__=memory:space:bytes:space:bytes env=prod ";
-    let dev =
-        "__name__=process_cpu __profile_type__=process_cpu:samples:count:cpu:nanoseconds env=dev ";
-    let prod =
-        "__name__=process_cpu __profile_type__=process_cpu:samples:count:cpu:nanoseconds env=prod ";
-    let test =
-        "__name__=process_cpu __profile_type__=process_cpu:samples:count:cpu:nanoseconds env=test ";
-    assert!(rt; lists_sets(alloc, &[], &[heap, dev, prod, test])?);
-    assert!(rt;
-        lists_sets(
-            alloc,
-            &["{env=\"dev\"}", "{__name__=\"memory\"}"],
-            &[heap, dev]
-        )?
-    );
-    assert!(rt; lists_sets(alloc, &["{env=\"none\"}"], &[])?);
+    let all = [
+        ("memory", HEAP, "shop"),
+        ("process_cpu", CPU, "bank"),
+        ("process_cpu", CPU, "shop"),
+        ("process_cpu", CPU, "till"),
+    ];
+    assert!(rt; lists_sets(alloc, &[], &all)?);
+    let either = ["{service_name=\"bank\"}", "{__name__=\"memory\"}"];
+    assert!(rt; lists_sets(alloc, &either, &all[..2])?);
+    assert!(rt; lists_sets(alloc, &["{service_name=\"none\"}"], &[])?);
+    Ok(())
+}
+
+fn are_names(names: &[Name], expected: &[&str]) -> bool {
+    let mut same = names.len() == expected.len();
+    for (name, text) in names.iter().zip(expected) {
+        same = same && name.as_str() == *text;
+    }
+    same
+}
+
+fn lists_names(alloc: Global, samples: &[Sample], expected: &[&str]) -> Result<bool, Fail> {
+    let names = lists_of(alloc, &[], &[samples])?.names()?;
+    Ok(are_names(&names, expected))
+}
+
+fn lists_services(alloc: Global, samples: &[Sample], expected: &[&str]) -> Result<bool, Fail> {
+    let values = lists_of(alloc, &[], &[samples])?.values("service_name")?;
+    Ok(are_names(&values, expected))
+}
+
+fn lists_series(alloc: Global, samples: &[Sample], expected: &[&str]) -> Result<bool, Fail> {
+    let series = lists_of(alloc, &[], &[samples])?.series(&["service_name"])?;
+    let mut same = series.len() == expected.len();
+    for (pairs, service) in series.iter().zip(expected) {
+        same = same && are_pairs(pairs, &[("service_name", *service)]);
+    }
+    Ok(same)
+}
+
+#[test]
+fn names_values_and_series_of_label_sets_are_listed(rt: HostRuntime) -> Result<(), Fail> {
+    let alloc = rt.alloc();
+    let names = ["__name__", "__profile_type__", "service_name"];
+    assert!(rt; lists_names(alloc, &ONCE, &names)?);
+    assert!(rt; lists_services(alloc, &ONCE, &["app"])?);
+    assert!(rt; lists_services(alloc, &EARLY, &["bank", "shop"])?);
+    assert!(rt; lists_series(alloc, &LATE, &["shop", "till"])?);
     Ok(())
 }
 
@@ -363,20 +437,21 @@ fn series_of(
     first: &[Sample],
     second: &[Sample],
 ) -> Result<Vec<Series>, Fail> {
-    let mut names = Vec::new(alloc);
-    names.push(Name::from_text(alloc, name)?)?;
+    let names = names(alloc, name)?;
     let mut points = Points::new(alloc, Query::read(alloc, CPU)?, START, 15, names);
     add_to_points(alloc, &mut points, first)?;
     add_to_points(alloc, &mut points, second)?;
     Ok(points.series()?)
 }
 
-fn points_text(alloc: Global, one: &Series) -> Result<String, Fail> {
-    let mut text = set_text(alloc, &one.labels)?;
-    for (time, value) in &one.points {
-        text = format!(in alloc; "{text}{time}:{value} ")?;
-    }
-    Ok(text)
+// A group's labels, and its points.
+type Group = (
+    &'static [(&'static str, &'static str)],
+    &'static [(u64, u64)],
+);
+
+fn is_group(one: &Series, expected: &Group) -> bool {
+    are_pairs(one.labels.pairs(), expected.0) && one.points.as_slice() == expected.1
 }
 
 fn plots(
@@ -384,26 +459,55 @@ fn plots(
     name: &str,
     first: &[Sample],
     second: &[Sample],
-    expected: &str,
+    expected: &[Group],
 ) -> Result<bool, Fail> {
-    let mut text = String::new(alloc);
-    for one in &series_of(alloc, name, first, second)? {
-        let points = points_text(alloc, one)?;
-        text = format!(in alloc; "{text}{points}; ")?;
+    let series = series_of(alloc, name, first, second)?;
+    let mut same = series.len() == expected.len();
+    for (one, expected) in series.iter().zip(expected) {
+        same = same && is_group(one, expected);
     }
-    Ok(text.as_str() == expected)
+    Ok(same)
 }
+
+const ROW: [Group; 1] = [(
+    &[],
+    &[
+        (1_700_000_000_000, 1),
+        (1_700_000_015_000, 6),
+        (1_700_000_030_000, 8),
+    ],
+)];
+
+const WHOLE: [Group; 1] = [(
+    &[],
+    &[
+        (1_700_000_000_000, 1),
+        (1_700_000_015_000, 6),
+        (1_700_000_030_000, 8),
+        (1_700_000_045_000, 0),
+    ],
+)];
+
+const GROUPED: [Group; 3] = [
+    (&[("service_name", "bank")], &[(1_700_000_015_000, 2)]),
+    (
+        &[("service_name", "shop")],
+        &[
+            (1_700_000_000_000, 1),
+            (1_700_000_015_000, 4),
+            (1_700_000_030_000, 8),
+        ],
+    ),
+    (&[("service_name", "till")], &[(1_700_000_045_000, 0)]),
+];
 
 #[test]
 fn profiles_count_at_the_first_point_that_is_not_before_them(rt: HostRuntime) -> Result<(), Fail> {
     let alloc = rt.alloc();
-    let whole = "1700000000000:1 1700000015000:6 1700000030000:8 1700000045000:0 ; ";
-    assert!(rt; plots(alloc, "none", &EARLY, &LATE, whole)?);
-    assert!(rt; plots(alloc, "__name__", &LATE, &EARLY, whole)?);
-    let grouped =
-        "env=dev 1700000015000:2 ; env=prod 1700000000000:1 1700000015000:4 1700000030000:8 ; \
-                   env=test 1700000045000:0 ; ";
-    assert!(rt; plots(alloc, "env", &EARLY, &LATE, grouped)?);
+    assert!(rt; plots(alloc, "none", &EARLY, &LATE[..2], &ROW)?);
+    assert!(rt; plots(alloc, "none", &EARLY, &LATE, &WHOLE)?);
+    assert!(rt; plots(alloc, "__name__", &LATE, &EARLY, &WHOLE)?);
+    assert!(rt; plots(alloc, "service_name", &EARLY, &LATE, &GROUPED)?);
     Ok(())
 }
 
@@ -414,28 +518,30 @@ fn joins(
     query: &str,
     first: &[Sample],
     second: &[Sample],
-    expected: &str,
+    expected: &[Sum],
 ) -> Result<bool, Fail> {
     let mut merge = merge_of(alloc, query)?;
     add_to_merge(alloc, &mut merge, first)?;
     let mut other = merge_of(alloc, query)?;
     add_to_merge(alloc, &mut other, second)?;
     merge.join(other)?;
-    Ok(sums_text(alloc, &merge.stacks())?.as_str() == expected)
+    Ok(are_sums(&merge.stacks(), expected))
 }
 
 #[test]
 fn two_merges_of_a_query_are_joined(rt: HostRuntime) -> Result<(), Fail> {
     let alloc = rt.alloc();
-    assert!(rt; joins(alloc, CPU, &EARLY, &LATE, "a 9;b 6;")?);
-    assert!(rt; joins(alloc, CPU, &EARLY, &[], "a 1;b 2;")?);
-    assert!(rt; joins(alloc, CPU, &[], &EARLY, "a 1;b 2;")?);
+    let early = [("a", 1), ("b", 2)];
+    assert!(rt; joins(alloc, CPU, &EARLY, &LATE, &[("a", 9), ("b", 6)])?);
+    assert!(rt; joins(alloc, CPU, &EARLY, &[], &early)?);
+    assert!(rt; joins(alloc, CPU, &[], &EARLY, &early)?);
     Ok(())
 }
 
 #[test]
 fn laws_take_no_step(_rt: HostRuntime) {
     rows_in_any_order();
+    parts_stay_bounded();
     answers_are_told_once();
     points_are_first();
     one_query_of_a_text();

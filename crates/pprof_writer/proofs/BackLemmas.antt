@@ -1,13 +1,11 @@
 -- What was written is read back.
-use Rattle.std.proofs.Common.{◌≡◌, ⊎_elim, ℕ, suc, ◌+◌, ◌^◌, ◌<◌, ◌≤◌, ◌||◌, List, [], ◌∷◌, ◌++◌, length, fold, Bool, true, false, cond, Some, None, Result, Ok, Err, Vec, Global, refl, sym, ap, ◌∙◌, arith}
-use Rattle.std.specs.Prelude.{nat_eq, nat_lt, pos, slice_index_or, sum_by}
+use Rattle.std.proofs.Common.{◌≡◌, ⊎_elim, ℕ, suc, ◌+◌, ◌^◌, ◌<◌, ◌≤◌, ◌||◌, List, [], ◌∷◌, ◌++◌, length, true, Some, None, Result, Ok, Err, Vec, Global, refl, sym, ap, ◌∙◌, arith}
+use Rattle.std.specs.Prelude.{nat_lt, pos, slice_index_or, sum_by}
 use Rattle.std.specs.Str.{IsUtf8}
 use Rattle.std.specs.List.{All}
 use Rattle.std.specs.Map.{keys_of}
-use Rattle.std.specs.Cmp.Lexicographic.{bytes_decides, pointwise}
 use Rattle.std.proofs.lemmas.Bool.{le-ltb, true≢false}
 use Rattle.std.proofs.lemmas.List.Elements.{All-cons, All-nil}
-use Rattle.std.proofs.lemmas.List.Folds.{list_any_at}
 use Rattle.std.proofs.lemmas.Str.{IsUtf8-nil}
 use Rattle.wire_forms.specs.Gzip.{IsGzip}
 use Rattle.wire_proto.specs.Writing.{groups_of, varint}
@@ -27,36 +25,21 @@ use Rattle.pprof_codec.specs.Profiles.{held_of, held_weight, parts_of, profile_o
 use Rattle.pprof_codec.specs.Read.{AreProfilesOf, IsBroken, IsMessageFault, IsReadPprof}
 use Rattle.pprof_writer.specs.Laws.{AreReadable, IsReadAs, held_again, said_parts}
 use Rattle.pprof_writer.specs.Messages.{AreHeld, said}
-use Rattle.pprof_writer.specs.Tables.{frames_in, is_among, place_of, texts_of, type_texts, with_text}
+use Rattle.pprof_writer.specs.Tables.{frames_in, is_among, place_of, texts_of, type_texts}
 use Rattle.pprof_writer.specs.Written.{written_pprof}
 use Rattle.pprof_writer.proofs.AgainLemmas.{sums-again}
 use Rattle.pprof_writer.proofs.BoundLemmas.{frames-all, frames-length, frames-sorted, part-weighs, reverse-all, samples-all, sum-cons, texts-all, texts-length, value-below}
 use Rattle.pprof_writer.proofs.FaultlessLemmas.{AreKnown, judged-none}
 use Rattle.pprof_writer.proofs.FrameLemmas.{frames-among}
 use Rattle.pprof_writer.proofs.LookLemmas.{IsNamed, samples-known, text-found}
+use Rattle.pprof_writer.proofs.OnceLemmas.{begins-fold, own-among}
 use Rattle.pprof_writer.proofs.PlaceLemmas.{place-sorted}
 use Rattle.pprof_writer.proofs.SaidLemmas.{written_is}
 use Rattle.pprof_writer.proofs.TextLemmas.{fold-kept, fold-own}
 
-begins-with : (texts : List (List ℕ)) (text : List ℕ) → begins_empty texts ≡ true → begins_empty (with_text texts text) ≡ true
-begins-with [] text begins = absurd (true≢false (sym begins))
-begins-with (t ∷ texts) text begins = by (is_among (t ∷ texts) text)
-  where
-    by : (b : Bool) → begins_empty (cond b (t ∷ texts) ((t ∷ texts) ++ text ∷ [])) ≡ true
-    by true = begins
-    by false = begins
-
-begins-fold : (texts more : List (List ℕ)) → begins_empty texts ≡ true → begins_empty (fold with_text texts more) ≡ true
-begins-fold texts [] begins = begins
-begins-fold texts (m ∷ more) begins = begins-fold (with_text texts m) more (begins-with texts m begins)
-
 begins-some : (texts : List (List ℕ)) → begins_empty texts ≡ true → 0 < length texts
 begins-some [] begins = absurd (true≢false (sym begins))
 begins-some (t ∷ texts) begins = omega arith
-
-own-among : (texts : List (List ℕ)) (k : ℕ) (d : List ℕ) → k < length texts → is_among texts (slice_index_or texts k d) ≡ true
-own-among texts k d within =
-    list_any_at (pointwise nat_eq (slice_index_or texts k d)) texts k d within ((bytes_decides (slice_index_or texts k d) (slice_index_or texts k d)).1 refl)
 
 abbrev five : ProfileType → List (List ℕ)
 five kind = [] ∷ said_parts kind

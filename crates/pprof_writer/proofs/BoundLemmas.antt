@@ -29,7 +29,7 @@ insert-all : (P : List ℕ → Type 0) (k : List ℕ) (xs : List (List ℕ)) →
 insert-all P k [] here all = All-cons P k [] here (All-nil P)
 insert-all P k (y ∷ ys) here all = put-all P (name_cmp k y) k y ys (insert_key name_cmp ys k) here all (insert-all P k ys here (All-tail P y ys all))
 
-fold-all : (P : List ℕ → Type 0) (found xs : List (List ℕ)) → All P found → All P xs → All P (fold (insert_key name_cmp) found xs)
+pub fold-all : (P : List ℕ → Type 0) (found xs : List (List ℕ)) → All P found → All P xs → All P (fold (insert_key name_cmp) found xs)
 fold-all P found [] all more = all
 fold-all P found (x ∷ xs) all more = fold-all P (insert_key name_cmp found x) xs (insert-all P x found (All-head P x xs more) all) (All-tail P x xs more)
 

@@ -11,4 +11,6 @@ mod LookLemmas
 mod FaultlessLemmas
 mod SortedLemmas
 mod BoundLemmas
+mod OnceLemmas
 mod BackLemmas
+mod SeenLemmas

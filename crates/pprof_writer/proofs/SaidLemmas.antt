@@ -227,7 +227,7 @@ good-location id small =
 good-text : (text : List ℕ) → length text < 2 ^ 64 → IsGood (Part 6 text)
 good-text text short = record { sound = record { not_zero = omega arith; at_most_last = omega arith; short = short }; unbroken = λ at. refl; is_part = tt }
 
-small-sample : (frames : List (List ℕ)) (sample : Sample) → length frames + 1 < 2 ^ 63 → length sample.0 < 2 ^ 50 → sample.1 < 2 ^ 63 → IsSmall (map (id_of frames) (reverse sample.0)) sample.1
+small-sample : (frames : List (List ℕ)) (sample : Sample) → length frames < 2 ^ 63 → length sample.0 < 2 ^ 50 → sample.1 < 2 ^ 63 → IsSmall (map (id_of frames) (reverse sample.0)) sample.1
 small-sample frames sample fits few small = record {
   ids_fit = all-map (λ n. n < 2 ^ 64) (id_of frames) (reverse sample.0) (each (reverse sample.0));
   few = (let one = length-map (reverse sample.0) (id_of frames) in let two = length-reverse sample.0 in omega arith);
@@ -258,7 +258,7 @@ good-sample frames sample small =
 
 -- ---- the members of a profile
 
-range-small : (from n : ℕ) → from + n < 2 ^ 63 → AllByRecursion (λ id. id < 2 ^ 63) (range_with_len from n)
+range-small : (from n : ℕ) → from + n ≤ 2 ^ 63 → AllByRecursion (λ id. id < 2 ^ 63) (range_with_len from n)
 range-small from zero small = tt
 range-small from (suc n) small = ((omega arith), range-small (from + 1) n (omega arith))
 
@@ -266,7 +266,7 @@ pub record IsFunction (one : ℕ × ℕ) : Type 0 where
   pub id_fits : one.0 < 2 ^ 63
   pub place_fits : one.1 < 2 ^ 63
 
-functions-small : (from : ℕ) (texts frames : List (List ℕ)) → length texts < 2 ^ 63 → from + length frames < 2 ^ 63
+functions-small : (from : ℕ) (texts frames : List (List ℕ)) → length texts < 2 ^ 63 → from + length frames ≤ 2 ^ 63
     → AllByRecursion IsFunction (enumerate_from from (map (place_of texts) frames))
 functions-small from texts [] fits small = tt
 functions-small from texts (f ∷ frames) fits small =
@@ -311,7 +311,7 @@ module _ (frames texts : List (List ℕ)) (kind : ProfileType) (sums : List Samp
   abbrev all : List Field
   all = profile_fields frames texts kind sums
 
-  count : 1 + length frames < 2 ^ 63
+  count : 1 + length frames ≤ 2 ^ 63
   count = let fits = held_in.frames_fit in omega arith
 
   good : AreGood all

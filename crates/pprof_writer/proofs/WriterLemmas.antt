@@ -1,12 +1,15 @@
 -- Messages that are written field by field.
-use Rattle.std.proofs.Common.{◌≡◌, ℕ, suc, ◌+◌, ◌<◌, List, [], ◌∷◌, ◌++◌, length, map, reverse, take, Some, sym, ap, ◌∙◌, append_assoc, append-nil, arith}
+use Rattle.std.proofs.Common.{◌≡◌, ℕ, suc, ◌+◌, ◌*◌, ◌<◌, ◌≤◌, List, [], ◌∷◌, ◌++◌, length, map, reverse, take, Some, sym, ap, ◌∙◌, subst, append_assoc, append-nil, arith}
 use Rattle.std.specs.Prelude.{slice_index_or, IsTrue}
 use Rattle.std.specs.List.{All, enumerate_from, range_with_len}
-use Rattle.std.proofs.lemmas.List.{map-append, reverse-append, take_more, length-take-le}
+use Rattle.std.specs.Map.{keys_of}
+use Rattle.std.proofs.lemmas.List.{length-append, map-append, reverse-append, take_more, length-take-le}
 use Rattle.std.proofs.lemmas.List.FromFn.{map-range_with_len_more}
 use Rattle.std.proofs.lemmas.Grind.{flat_map-append}
-use Rattle.std.proofs.lemmas.List.Elements.{All-pop}
-use Rattle.wire_proto.specs.Writing.{varint}
+use Rattle.std.proofs.lemmas.List.Elements.{All-cons, All-pop}
+use Rattle.wire_proto.specs.Writing.{bytes_field, varint}
+use Rattle.profile_model.specs.Stacks.{IsStack}
+use Rattle.profile_model.specs.Sums.{Sample}
 use Rattle.pprof_writer.specs.Tables.{id_of, is_among}
 use Rattle.pprof_writer.specs.Fields.{Field, Part, message, spelled}
 use Rattle.pprof_writer.specs.Written.{fields_with, packed, written_function, written_location}
@@ -90,3 +93,27 @@ one_member_more number bytes left rest member before after whole taken is grown 
     ap (λ t. t ++ message (fields_with number bytes rest)) grown
     ∙ append_assoc before (spelled (Part number (bytes member))) (message (fields_with number bytes rest))
     ∙ ap (λ t. before ++ message (fields_with number bytes t)) (sym taken) ∙ is
+
+-- the limits of all stacks, where those that are left are within them: so it stays with one more stack that is
+pub one_stack_more : (left rest : List Sample) (sample : Sample) (Whole : Type 0) → left ≡ sample ∷ rest → IsStack sample.0
+    → (All IsStack (keys_of left) → Whole) → All IsStack (keys_of rest) → Whole
+one_stack_more left rest sample Whole taken one so_far others =
+    so_far (subst (λ l. All IsStack (keys_of l)) (sym taken) (All-cons IsStack sample.0 (keys_of rest) one others))
+
+-- a text is no longer than what it is written to
+pub text_within : (number : ℕ) (text out new : List ℕ) → new ≡ out ++ bytes_field number text → length text ≤ length new
+text_within number text out new is =
+    let whole : length new ≡ length out + length (bytes_field number text) = ap length is ∙ length-append out (bytes_field number text) in
+    let field : length (bytes_field number text) ≡ length (varint (number * 8 + 2) ++ varint (length text)) + length text =
+    length-append (varint (number * 8 + 2) ++ varint (length text)) text in
+    omega (arith, whole, field)
+
+-- one text more of those that are written
+pub texts_more : (out before after : List ℕ) (texts : List (List ℕ)) (i : ℕ) → i < length texts
+    → before ≡ out ++ message (fields_with 6 (λ text. text) (take i texts)) → after ≡ before ++ bytes_field 6 (slice_index_or texts i [])
+    → after ≡ out ++ message (fields_with 6 (λ text. text) (take (i + 1) texts))
+texts_more out before after texts i within is grown =
+    let text = slice_index_or texts i [] in
+    pushed out before after (fields_with 6 (λ text. text) (take i texts)) (Part 6 text) is grown
+    ∙ ap (λ fields. out ++ message fields)
+    (sym (ap (fields_with 6 (λ text. text)) (take_more texts i [] within) ∙ map-append (λ (text : List ℕ). Part 6 text) (take i texts) (text ∷ [])))

@@ -3,3 +3,4 @@ pub mod Tables
 pub mod Written
 pub mod Messages
 pub mod Laws
+pub mod Once

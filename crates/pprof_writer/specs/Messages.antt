@@ -1,5 +1,5 @@
 -- The lists that a written pprof says.
-use Rattle.std.specs.Prelude.{ℕ, ◌^◌, ◌<◌, ◌+◌, pos, List, [], ◌∷◌, length, map, reverse}
+use Rattle.std.specs.Prelude.{ℕ, ◌^◌, ◌<◌, pos, List, [], ◌∷◌, length, map, reverse}
 use Rattle.std.specs.List.{All, enumerate_from, range_with_len}
 use Rattle.profile_model.specs.Sums.{Sample}
 use Rattle.profile_model.specs.declared.kind.ProfileType.{ProfileType}
@@ -35,7 +35,7 @@ said frames texts kind sums = record {
 
 -- Lengths and values that fit their fields: no memory holds what doesn't, but a list may.
 pub record AreHeld (frames texts : List (List ℕ)) (sums : List Sample) : Type 0 where
-  pub frames_fit : length frames + 1 < 2 ^ 63
+  pub frames_fit : length frames < 2 ^ 63
   pub texts_fit : length texts < 2 ^ 63
   pub each_text : All (λ text. length text < 2 ^ 64) texts
   pub stacks : All (λ sample. length sample.0 < 2 ^ 50) sums

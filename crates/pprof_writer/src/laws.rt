@@ -11,6 +11,7 @@ ghost use Rattle.pprof_codec.specs.declared.base.Base.{Base};
 ghost use Rattle.pprof_codec.specs.declared.fault.PprofFault.{PprofFault};
 ghost use Rattle.pprof_writer.specs.Laws.{AreReadable, IsReadAs, held_again};
 ghost use Rattle.pprof_writer.specs.Messages.{AreHeld, said};
+ghost use Rattle.pprof_writer.specs.Once.{AreFramesOf, AreTextsOf};
 ghost use Rattle.pprof_writer.specs.Tables.{frames_in, texts_of};
 ghost use Rattle.pprof_writer.specs.Written.{written_pprof};
 
@@ -29,4 +30,10 @@ pub fn written_is_read_back()
         → IsReadAs (held_again base kind sums) answer }
     ensures profile { (base : Base) (kind : ProfileType) (sums : List Sample) → AreReadable base kind sums
         → (profile : Profile) → held_of profile ≡ held_again base kind sums → AreProfilesOf base (written_pprof kind sums) (profile ∷ []) }
+{}
+
+/// Each frame and each text stands once in what `write_pprof` writes. Ids are counted, so a location and a function do too.
+pub fn names_stand_once()
+    ensures frames { (sums : List Sample) → AreFramesOf sums (frames_in sums) }
+    ensures texts { (kind : ProfileType) (sums : List Sample) → AreTextsOf kind (frames_in sums) (texts_of kind (frames_in sums)) }
 {}

@@ -7,5 +7,5 @@ mod names;
 mod tests;
 mod writer;
 
-pub use laws::{written_is_a_message, written_is_read_back};
+pub use laws::{names_stand_once, written_is_a_message, written_is_read_back};
 pub use writer::write_pprof;

@@ -1,11 +1,17 @@
 // Sums to the bytes of a pprof.
-ghost use Rattle.std.specs.Prelude.{◌≡◌, ◌≤◌, ◌∷◌, [], ◌++◌, IfOk, IsTrue, OnOk, length, map, reverse};
+ghost use Rattle.std.specs.Prelude.{◌≡◌, ◌≤◌, ◌<◌, ◌^◌, ◌∷◌, [], ◌++◌, IfOk, IsTrue, OnOk, length, map, reverse};
 ghost use Rattle.std.specs.List.{All, enumerate_from, range_with_len};
 ghost use Rattle.std.specs.List.Sorted.{IsStrictlySortedBy};
+ghost use Rattle.std.specs.Map.{keys_of};
+ghost use Rattle.std.specs.Str.{IsUtf8};
 ghost use Rattle.wire_proto.specs.Field.{last_number};
-ghost use Rattle.profile_model.specs.Stacks.{name_cmp};
+ghost use Rattle.profile_model.specs.Stacks.{IsStack, name_cmp};
+ghost use Rattle.profile_model.specs.Sums.{AreSums};
+ghost use Rattle.pprof_codec.specs.declared.base.Base.{Base};
 ghost use Rattle.pprof_writer.specs.Fields.{Number, Part, message, spelled};
-ghost use Rattle.pprof_writer.specs.Tables.{id_of, is_among};
+ghost use Rattle.pprof_writer.specs.Laws.{AreReadable, CanBeReadBack, IsReadBack};
+ghost use Rattle.pprof_writer.specs.Messages.{AreHeld};
+ghost use Rattle.pprof_writer.specs.Tables.{frames_in, id_of, is_among, texts_of};
 ghost use Rattle.pprof_writer.specs.Written.{fields_with, packed, value_type, written_function, written_location, written_pprof, written_sample};
 
 use crate::names::{frames_in, id_of, place_of, texts_of};
@@ -20,6 +26,9 @@ pub fn write_pprof(
     values: &StackSums,
 ) -> Result<Vec<u8>, AllocError>
     ensures bytes { IfOk result (λ bytes. bytes.items ≡ written_pprof kind.now values.now) }
+    ensures held { IfOk result (λ _. AreHeld (frames_in values.now) (texts_of kind.now (frames_in values.now)) values.now) }
+    ensures readable { IfOk result (λ _. (base : Base) → CanBeReadBack base kind.now values.now → AreReadable base kind.now values.now) }
+    ensures read_back { IfOk result (λ bytes. (base : Base) → CanBeReadBack base kind.now values.now → IsReadBack base kind.now values.now bytes.items) }
 {
     let frames = frames_in(alloc, values)?;
     let (texts, places) = texts_of(alloc, kind, &frames)?;
@@ -100,7 +109,8 @@ fn put_sample(
 ) -> Result<(), AllocError>
     requires sorted { IsStrictlySortedBy name_cmp frames.now }
     requires there { All (λ frame. IsTrue (is_among frames.now frame)) stack.now }
-    ensures { OnOk result (out.new.items ≡ out.old.items ++ spelled (Part 2 (written_sample frames.now (stack.now, value)))) }
+    ensures written { OnOk result (out.new.items ≡ out.old.items ++ spelled (Part 2 (written_sample frames.now (stack.now, value)))) }
+    ensures limits { OnOk result (IsStack stack.now) }
 {
     numbers.clear();
     put_ids(numbers, frames, stack.frames())?;
@@ -120,7 +130,9 @@ fn put_samples(
 ) -> Result<(), AllocError>
     requires sorted { IsStrictlySortedBy name_cmp frames.now }
     requires there { All (λ sample. All (λ frame. IsTrue (is_among frames.now frame)) sample.0) values.now }
-    ensures { OnOk result (out.new.items ≡ out.old.items ++ message (fields_with 2 (written_sample frames.now) values.now)) }
+    ensures written { OnOk result (out.new.items ≡ out.old.items ++ message (fields_with 2 (written_sample frames.now) values.now)) }
+    ensures sums { OnOk result (AreSums values.now) }
+    ensures stacks { OnOk result (All IsStack (keys_of values.now)) }
 {
     let mut numbers = Vec::new(alloc);
     let mut sample = Vec::new(alloc);
@@ -184,7 +196,9 @@ fn put_function(
 }
 
 fn put_texts(out: &mut Vec<u8>, texts: &[Name]) -> Result<(), AllocError>
-    ensures { OnOk result (out.new.items ≡ out.old.items ++ message (fields_with 6 (λ text. text) texts.now)) }
+    ensures written { OnOk result (out.new.items ≡ out.old.items ++ message (fields_with 6 (λ text. text) texts.now)) }
+    ensures utf8 { OnOk result (All IsUtf8 texts.now) }
+    ensures short { OnOk result (All (λ text. length text < 2 ^ 64) texts.now) }
 {
     for text in texts {
         put_bytes(out, 6, text.as_bytes())?;

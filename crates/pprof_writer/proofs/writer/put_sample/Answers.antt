@@ -6,9 +6,9 @@ use Rattle.pprof_writer.specs.Written.{packed, written_sample}
 use Rattle.pprof_writer.proofs.WriterLemmas.{two}
 use Rattle.pprof_writer.proofs.writer.put_sample.Goals as goal
 
-pub returns : goal.returns
+pub returns-clause-written : goal.returns-clause-written
 unfolding written_sample
-returns c =
+returns-clause-written c =
     let ids = packed (map (id_of c.args.frames.now) (reverse c.args.stack.now)) in
     let first : c.deref.result.now ≡ ids =
     c.deref.ensures.value ∙ c.in_ok-put_ids.ensures ∙ ap (λ t. t ++ packed (map (id_of c.args.frames.now) (reverse c.frames.result.now))) c.clear.ensures.items

@@ -6,3 +6,4 @@ pub mod BreakLemmas
 pub mod LabelLemmas
 pub mod ReadLabelLemmas
 pub mod SeenLemmas
+pub mod FromSamplesLemmas

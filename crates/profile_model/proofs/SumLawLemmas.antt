@@ -22,7 +22,7 @@ use Rattle.profile_model.specs.SumLaw.{value_in, AreSumsOf}
 
 -- ---- one sample added
 
-same_stack : (xs ys : List (List ℕ)) → stack_cmp xs ys ≡ Equal → xs ≡ ys
+pub same_stack : (xs ys : List (List ℕ)) → stack_cmp xs ys ≡ Equal → xs ≡ ys
 same_stack xs ys tied = (pointwise_decides bytes_decides xs ys).0 (stacks_ties xs ys ∙ ap is_eq tied)
 
 value_of-with_added : (sums : List Sample) (stack : List (List ℕ)) (value : ℕ) (q : List (List ℕ))

@@ -1,5 +1,5 @@
 // Values added up for each stack.
-ghost use Rattle.std.specs.Prelude.{◌≡◌, ◌↔◌, ◌+◌, ◌<◌, ◌≤◌, [], length, IsTrue, OnOk, OnErr, IsErrOf};
+ghost use Rattle.std.specs.Prelude.{◌≡◌, ◌↔◌, ◌+◌, ◌<◌, ◌≤◌, [], length, IfOk, IsTrue, OnOk, OnErr, IsErrOf};
 ghost use Rattle.profile_model.specs.Limits.{total_bound};
 ghost use Rattle.profile_model.specs.Sums.{AreSums, total_of, value_of, with_added};
 ghost use Rattle.faults.specs.declared.refused.Refused.TheVariants.{Fault};
@@ -61,6 +61,17 @@ impl StackSums {
         }
     }
 
+    /// The sums that these samples are: their stacks ascend, each has a value of at least 1,
+    /// and all values together are within `MAX_TOTAL`.
+    pub fn from_samples(alloc: Global, samples: Vec<(Stack, u64)>) -> Result<StackSums, AllocError>
+        requires sums { AreSums samples.items }
+        ensures value { IfOk result (λ sums. sums ≡ samples.items) }
+    {
+        let total = total_of(&samples);
+        let values = samples.into_iter().collect(alloc)?;
+        Ok(StackSums { values, total })
+    }
+
     /// Adds to the stack's value. A value of 0 changes nothing.
     pub fn add(&mut self, stack: Stack, value: u64) -> Result<(), Refused<AddFault>>
         ensures ok { OnOk result (self.new ≡ with_added self.old stack value) }
@@ -118,6 +129,14 @@ impl StackSums {
     {
         self.values.iter()
     }
+}
+
+// All values together.
+fn total_of(samples: &[(Stack, u64)]) -> u64
+    requires { total_of samples.now < total_bound }
+    ensures { result ≡ total_of samples.now }
+{
+    samples.iter().map(|sample| sample.1).sum()
 }
 
 impl Clone for StackSums {

@@ -1,10 +1,10 @@
 // What no clause says: that each call succeeds with ample memory, and the texts of the faults.
-ghost use Rattle.std.specs.Prelude.{IfOk};
+ghost use Rattle.std.specs.Prelude.{◌≡◌, IfOk};
 ghost use Rattle.profile_model.specs.LabelSets.{AreProfileLabels};
 
 use crate::*;
 use faults::Refused;
-use std::alloc::Global;
+use std::alloc::{AllocError, Global};
 use std::cmp::Ordering;
 use std::sync::ArcSlice;
 use std::test::Fail;
@@ -171,6 +171,28 @@ fn filled(
     Ok((over, most, held))
 }
 
+fn samples_of(alloc: Global, sums: &StackSums) -> Result<Vec<(Stack, u64)>, AllocError>
+    ensures { IfOk result (λ samples. samples.items ≡ sums.now) }
+{
+    let mut samples = Vec::new(alloc);
+    for (stack, value) in sums.iter() {
+        samples.push((stack.clone()?, *value))?;
+    }
+    Ok(samples)
+}
+
+// The values and their total of sums that are made of the samples of these.
+fn made_of_samples(alloc: Global, expected: &[u64]) -> Result<(bool, u64), Fail> {
+    let sums = sums_of(alloc, &SAMPLES)?;
+    let made = made_again(alloc, &sums)?;
+    Ok((has_values(&made, expected), made.total()))
+}
+
+fn made_again(alloc: Global, sums: &StackSums) -> Result<StackSums, AllocError> {
+    sums.iter();
+    StackSums::from_samples(alloc, samples_of(alloc, sums)?)
+}
+
 #[test]
 fn equal_stacks_are_summed_and_others_ascend(rt: HostRuntime) -> Result<(), Fail> {
     let alloc = rt.alloc();
@@ -180,6 +202,7 @@ fn equal_stacks_are_summed_and_others_ascend(rt: HostRuntime) -> Result<(), Fail
         filled(alloc)?,
         (Err(Refused::Fault(AddFault::Sum)), Ok(()), 5)
     );
+    assert_eq!(rt; made_of_samples(alloc, &[2, 3, 5])?, (true, 10));
     Ok(())
 }
 

@@ -60,7 +60,7 @@ pub(crate) fn merged(alloc: Global, parts: &[Part]) -> io::Result<StackSums> {
     for part in parts {
         room = add_sums(&mut merge, room, part)?;
     }
-    Ok(merge.stacks())
+    Ok(merge.stacks()?)
 }
 
 // The room is what values may still come to.

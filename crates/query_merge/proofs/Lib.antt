@@ -3,6 +3,8 @@ pub mod SpanLemmas
 pub mod TypeLemmas
 pub mod AskedLemmas
 pub mod SumLemmas
+pub mod JoinLemmas
+pub mod RunLemmas
 pub mod PlotLemmas
 pub mod GroupLemmas
 pub mod OrderLemmas

@@ -33,7 +33,7 @@ first_counts true value rest found none same = let nothing = none refl in omega 
 first_counts false value rest found none same = omega arith
 
 -- where stacks are distinct, a stack's value is all that its samples come to
-value_in-sums : (sums : List Sample) (q : List (List ℕ)) → IsStrictlySortedBy stack_cmp (keys_of sums) → value_in sums q ≡ value_of sums q
+pub value_in-sums : (sums : List Sample) (q : List (List ℕ)) → IsStrictlySortedBy stack_cmp (keys_of sums) → value_in sums q ≡ value_of sums q
 unfolding IsStrictlySortedBy
 value_in-sums [] q sorted = refl
 value_in-sums (x ∷ xs) q sorted =
@@ -49,7 +49,7 @@ value_in-sums (x ∷ xs) q sorted =
 pub value_in-append : (xs ys : List Sample) (q : List (List ℕ)) → value_in (xs ++ ys) q ≡ value_in xs q + value_in ys q
 value_in-append xs ys q = sum_by-append (λ (one : Sample). if stack_eq one.0 q then one.1 else 0) xs ys
 
-value_in-sums_of : (samples : List Sample) (q : List (List ℕ)) → value_in (sums_of samples) q ≡ value_in samples q
+pub value_in-sums_of : (samples : List Sample) (q : List (List ℕ)) → value_in (sums_of samples) q ≡ value_in samples q
 value_in-sums_of samples q = value_in-sums (sums_of samples) q (sums_of-are samples).ascending ∙ (sums_of-are samples).exact q
 
 -- the sums of some samples, added to those of others

@@ -3,7 +3,9 @@ pub mod Spans
 pub mod TypeLists
 pub mod SetLists
 pub mod Asked
+pub mod Joining
 pub mod Merging
+pub mod Runs
 pub mod Grid
 pub mod Plotted
 pub mod Gathering

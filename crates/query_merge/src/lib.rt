@@ -4,10 +4,12 @@
 mod asked;
 mod grid;
 mod groups;
+mod join;
 mod label_lists;
 mod laws;
 mod merge;
 mod points;
+mod runs;
 mod stats;
 #[cfg(test)]
 mod tests;

@@ -2,15 +2,15 @@
 ghost use Rattle.std.specs.Prelude.{◌≡◌, ◌+◌, ◌<◌, ◌≤◌, ◌++◌, List, [], IfOk, OnErr, OnOk};
 ghost use Rattle.profile_model.specs.Limits.{total_bound};
 ghost use Rattle.profile_model.specs.Pushes.{profiles_total};
-ghost use Rattle.profile_model.specs.Sums.{Sample, sums_of, total_of};
+ghost use Rattle.profile_model.specs.Sums.{AreSums, total_of};
 ghost use Rattle.profile_model.specs.declared.profile.Profile.{Profile};
 ghost use Rattle.query_merge.specs.Asked.{stacks_of};
-ghost use Rattle.query_merge.specs.Merging.{IsMergeOf, asked_samples, with_samples};
+ghost use Rattle.query_merge.specs.Merging.{IsMergeOf};
 ghost use Rattle.query_merge.specs.Rows.{profiles_of};
 
 use crate::asked::Asked;
-use faults::Refused;
-use profile_model::StackSums;
+use crate::runs::{Runs, samples_of};
+use profile_model::{Stack, StackSums};
 use segment_file::{Part, Row};
 use selector::Query;
 use std::alloc::{AllocError, Global};
@@ -21,7 +21,7 @@ use std::marker::Model;
 pub struct Merge {
     alloc: Global,
     asked: Asked,
-    sums: StackSums,
+    runs: Runs,
 }
 
 impl Model for Merge {
@@ -29,7 +29,7 @@ impl Model for Merge {
 
     ghost Value = { MergeView };
 
-    ghost view = { λ m. record { query = m.asked; sums = m.sums } };
+    ghost view = { λ m. record { query = m.asked; sums = m.runs } };
 }
 
 impl Merge {
@@ -41,7 +41,7 @@ impl Merge {
         Merge {
             alloc,
             asked: Asked::new(alloc, query),
-            sums: StackSums::new(alloc),
+            runs: Runs::new(alloc),
         }
     }
 
@@ -53,9 +53,8 @@ impl Merge {
         ensures query { self.new.query ≡ self.old.query }
         ensures err { OnErr result (self.new ≡ self.old) }
     {
-        let sums = sums_of_part(self.alloc, &mut self.asked, &part.rows)?;
-        self.sums = joined(&self.sums, sums)?;
-        Ok(())
+        let samples = samples_of_part(self.alloc, &mut self.asked, &part.rows)?;
+        self.runs.put(samples)
     }
 
     /// Adds the rows that were added to another merge of the same query. Want of memory leaves the sums as they were.
@@ -67,64 +66,34 @@ impl Merge {
         ensures query { self.new.query ≡ self.old.query }
         ensures err { OnErr result (self.new ≡ self.old) }
     {
-        self.sums = joined(&self.sums, other.sums)?;
-        Ok(())
+        self.runs.put(other.runs.samples()?)
     }
 
-    /// The sums. It takes no memory.
-    pub fn stacks(self) -> StackSums
-        ensures sums { (profiles : List Profile) → IsMergeOf self profiles → result ≡ stacks_of self.query profiles }
+    /// The sums.
+    pub fn stacks(self) -> Result<StackSums, AllocError>
+        ensures sums { (profiles : List Profile) → IsMergeOf self profiles → IfOk result (λ sums. sums ≡ stacks_of self.query profiles) }
     {
-        self.sums
+        StackSums::from_samples(self.alloc, self.runs.samples()?)
     }
 }
 
-// The sums of the rows that are asked for.
-fn sums_of_part(alloc: Global, asked: &mut Asked, rows: &[Row]) -> Result<StackSums, AllocError>
+// What the rows that are asked for come to.
+fn samples_of_part(
+    alloc: Global,
+    asked: &mut Asked,
+    rows: &[Row],
+) -> Result<Vec<(Stack, u64)>, AllocError>
     requires { profiles_total (profiles_of rows.now) < total_bound }
-    ensures sums { IfOk result (λ sums. sums ≡ stacks_of asked.old (profiles_of rows.now)) }
-    ensures total { IfOk result (λ sums. total_of sums ≤ profiles_total (profiles_of rows.now)) }
+    ensures samples { IfOk result (λ samples. AreSums samples.items) }
+    ensures sums { IfOk result (λ samples. samples.items ≡ stacks_of asked.old (profiles_of rows.now)) }
+    ensures total { IfOk result (λ samples. total_of samples.items ≤ profiles_total (profiles_of rows.now)) }
     ensures unchanged { asked.new ≡ asked.old }
 {
-    let mut sums = StackSums::new(alloc);
+    let mut runs = Runs::new(alloc);
     for row in rows {
         if asked.asks(&row.profile)? {
-            add_values(&mut sums, &row.profile.values)?;
+            runs.put(samples_of(alloc, &row.profile.values)?)?;
         }
     }
-    Ok(sums)
-}
-
-// The sums of both together: the fewer stacks are added to the more.
-fn joined(held: &StackSums, more: StackSums) -> Result<StackSums, AllocError>
-    requires { total_of held.now + total_of more < total_bound }
-    ensures total { IfOk result (λ sums. total_of sums ≡ total_of held.now + total_of more) }
-    ensures sums { (first : List Sample) → (second : List Sample) → held.now ≡ sums_of first → more ≡ sums_of second
-        → IfOk result (λ sums. sums ≡ sums_of (first ++ second)) }
-{
-    if held.len() <= more.len() {
-        let mut sums = more;
-        add_values(&mut sums, held)?;
-        Ok(sums)
-    } else {
-        let mut sums = held.clone()?;
-        add_values(&mut sums, &more)?;
-        Ok(sums)
-    }
-}
-
-fn add_values(sums: &mut StackSums, values: &StackSums) -> Result<(), AllocError>
-    requires { total_of sums.old + total_of values.now < total_bound }
-    ensures ok { OnOk result (sums.new ≡ with_samples sums.old values.now) }
-    ensures total { OnOk result (total_of sums.new ≡ total_of sums.old + total_of values.now) }
-{
-    for (stack, value) in values.iter() {
-        match sums.add(stack.clone()?, *value) {
-            Ok(()) => {}
-            Err(Refused::Memory) => return Err(AllocError),
-            // The sums stay within the bound on all values.
-            Err(Refused::Fault(_)) => unreachable!(),
-        }
-    }
-    Ok(())
+    runs.samples()
 }

@@ -220,7 +220,7 @@ fn added(
     let mut merge = merge_of(alloc, query)?;
     add_to_merge(alloc, &mut merge, first)?;
     add_to_merge(alloc, &mut merge, second)?;
-    Ok(merge.stacks())
+    Ok(merge.stacks()?)
 }
 
 fn is_stack(stack: &Stack, expected: &str) -> bool {
@@ -302,7 +302,7 @@ fn shared_adds_up(
     let mut merge = merge_of(alloc, CPU)?;
     add_part(&mut merge, &part_of_stack(alloc, &stack, first)?)?;
     add_part(&mut merge, &part_of_stack(alloc, &stack, second)?)?;
-    Ok(are_sums(&merge.stacks(), &[("a", expected)]))
+    Ok(are_sums(&merge.stacks()?, &[("a", expected)]))
 }
 
 #[test]
@@ -525,7 +525,7 @@ fn joins(
     let mut other = merge_of(alloc, query)?;
     add_to_merge(alloc, &mut other, second)?;
     merge.join(other)?;
-    Ok(are_sums(&merge.stacks(), expected))
+    Ok(are_sums(&merge.stacks()?, expected))
 }
 
 #[test]

@@ -11,3 +11,4 @@ pub mod OrderLemmas
 pub mod QueryLemmas
 pub mod OnceLemmas
 pub mod PartLemmas
+pub mod PartRowLemmas

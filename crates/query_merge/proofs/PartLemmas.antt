@@ -19,7 +19,7 @@ use Rattle.profile_model.specs.declared.push.Push.{Push}
 use Rattle.push_history.specs.History.{pushes_of, pushes_total, tenant_total}
 use Rattle.segment_file.specs.Parts.{PartView, is_of, is_within, part_of, rows_of_push}
 use Rattle.segment_file.specs.declared.part.Row.{Row}
-use Rattle.query_merge.specs.Laws.{ArePartsFrom, PartsInAnyOrder, PartsStayBounded}
+use Rattle.query_merge.specs.Laws.{ArePartsFrom, PartsInAnyOrder, PartsStayBounded, RowsInAnyOrder}
 use Rattle.query_merge.specs.Rows.{profiles_of, profiles_of_parts}
 
 -- ---- any order
@@ -69,6 +69,15 @@ module _ {X A : Type 0} (f : X → List A) where
 pub parts_in_any_order : PartsInAnyOrder
 parts_in_any_order parts others moved = flat_map-IsPermutation (λ (part : PartView). profiles_of part.rows) parts others moved
 
+one_each : (rows : List Row) → flat_map (λ row. row.profile ∷ []) rows ≡ profiles_of rows
+one_each [] = refl
+one_each (row ∷ rows) = ap (λ (rest : List Profile). row.profile ∷ rest) (one_each rows)
+
+pub rows_in_any_order : RowsInAnyOrder
+rows_in_any_order rows others moved =
+    subst (λ profiles. IsPermutation profiles (profiles_of others)) (one_each rows)
+    (subst (IsPermutation (flat_map (λ (row : Row). row.profile ∷ []) rows)) (one_each others) (flat_map-IsPermutation (λ (row : Row). row.profile ∷ []) rows others moved))
+
 -- ---- totals
 
 within_total : (ask : PartAsk) (rows : List Row) → profiles_total (profiles_of (filter (is_within ask) rows)) ≤ profiles_total (profiles_of rows)
@@ -83,7 +92,7 @@ within_total ask (row ∷ rows) = by (is_within ask row) (within_total ask rows)
         omega arith
     by false later = let all = sum_by-cons (λ (profile : Profile). total_of profile.values) row.profile (profiles_of rows) in omega arith
 
-placed_profiles : (push place : ℕ) (profiles : List Profile)
+pub placed_profiles : (push place : ℕ) (profiles : List Profile)
     → profiles_of (map (λ placed. record { push = push; place = placed.0; profile = placed.1 }) (enumerate_from place profiles)) ≡ profiles
 placed_profiles push place [] = refl
 placed_profiles push place (profile ∷ profiles) = ap (λ (rest : List Profile). profile ∷ rest) (placed_profiles push (place + 1) profiles)

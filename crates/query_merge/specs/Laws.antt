@@ -1,5 +1,5 @@
 -- What holds of all rows, in whatever order they come.
-use Rattle.std.specs.Prelude.{◌≡◌, ℕ, ◌+◌, ◌*◌, ◌<◌, ◌≤◌, ◌++◌, List, [], ◌∷◌, Ok, Option}
+use Rattle.std.specs.Prelude.{◌≡◌, ℕ, ◌+◌, ◌*◌, ◌<◌, ◌≤◌, ◌++◌, List, [], ◌∷◌, Ok, Option, fold, length}
 use Rattle.std.specs.List.Sorted.{IsPermutation}
 use Rattle.label_queries.specs.Labels.{label_sets_of}
 use Rattle.profile_model.specs.Limits.{total_bound}
@@ -9,8 +9,9 @@ use Rattle.profile_model.specs.declared.kind.ProfileType.{ProfileType}
 use Rattle.profile_model.specs.declared.part_ask.PartAsk.{PartAsk}
 use Rattle.profile_model.specs.declared.profile.Profile.{Profile}
 use Rattle.profile_model.specs.declared.push.Push.{Push}
-use Rattle.push_history.specs.History.{HasBoundedTotals}
+use Rattle.push_history.specs.History.{HasBoundedTotals, front_of, rows_of}
 use Rattle.segment_file.specs.Parts.{PartView, part_of}
+use Rattle.segment_file.specs.declared.part.Row.{Row}
 use Rattle.selector.specs.Matching.{Matching}
 use Rattle.selector.specs.Read.{IsReadQuery}
 use Rattle.selector.specs.declared.query.Query.{Query}
@@ -25,6 +26,10 @@ use Rattle.query_merge.specs.TypeLists.{types_of}
 abbrev pub PartsInAnyOrder : Type 0
 PartsInAnyOrder =
     (parts others : List PartView) → IsPermutation parts others → IsPermutation (profiles_of_parts parts) (profiles_of_parts others)
+
+-- rows in any order have the same profiles, in some order
+abbrev pub RowsInAnyOrder : Type 0
+RowsInAnyOrder = (rows others : List Row) → IsPermutation rows others → IsPermutation (profiles_of rows) (profiles_of others)
 
 abbrev pub SpanInAnyOrder : Type 0
 SpanInAnyOrder = (profiles others : List Profile) (span : Option (ℕ × ℕ)) → IsPermutation profiles others → IsSpanOf profiles span → IsSpanOf others span
@@ -58,6 +63,18 @@ abbrev pub PartsStayBounded : Type 0
 PartsStayBounded =
     (history : List Push) (ask : PartAsk) (parts : List PartView) (next : PartView) → HasBoundedTotals history
     → ArePartsFrom history ask 0 (parts ++ next ∷ []) → profiles_total (profiles_of_parts parts) + profiles_total (profiles_of next.rows) < total_bound
+
+-- ---- all parts
+
+-- where the last of the parts ends
+abbrev pub end_of : ℕ → List PartView → ℕ
+end_of from parts = fold (λ end part. part.until) from parts
+
+-- parts up to the history's end have the tenant's rows in the ask's window, all and in order
+abbrev pub PartsAreRows : Type 0
+PartsAreRows =
+    (history : List Push) (ask : PartAsk) (parts : List PartView) → ArePartsFrom history ask 0 parts → end_of 0 parts ≡ length history
+    → profiles_of_parts parts ≡ rows_of history ask.tenant (front_of history ask.tenant) ask.from_ms ask.until_ms
 
 -- ---- answers are told once
 

@@ -1,9 +1,10 @@
 // What holds of all answers.
-ghost use Rattle.query_merge.specs.Laws.{OneQuery, OneSeries, OneSpan, OneType, PartsInAnyOrder, PartsStayBounded, PointsAreFirst, SeriesInAnyOrder, SetsInAnyOrder, SpanInAnyOrder, StacksInAnyOrder, TypesInAnyOrder};
+ghost use Rattle.query_merge.specs.Laws.{OneQuery, OneSeries, OneSpan, OneType, PartsAreRows, PartsInAnyOrder, PartsStayBounded, PointsAreFirst, RowsInAnyOrder, SeriesInAnyOrder, SetsInAnyOrder, SpanInAnyOrder, StacksInAnyOrder, TypesInAnyOrder};
 
 /// In whatever order rows and parts come, they come to the same. It does nothing: its clauses are the law.
 pub fn rows_in_any_order()
     ensures parts { PartsInAnyOrder }
+    ensures rows { RowsInAnyOrder }
     ensures span { SpanInAnyOrder }
     ensures types { TypesInAnyOrder }
     ensures sets { SetsInAnyOrder }
@@ -14,6 +15,12 @@ pub fn rows_in_any_order()
 /// The parts of a tenant's rows have room in a merge and at points, one after another. It does nothing: its clause is the law.
 pub fn parts_stay_bounded()
     ensures { PartsStayBounded }
+{}
+
+/// Parts that follow one another up to the history's end have the tenant's rows of the ask, all and in order. It does nothing:
+/// its clause is the law.
+pub fn parts_are_rows()
+    ensures { PartsAreRows }
 {}
 
 /// Rows have one span and one list of series, and texts of types tell the types, so what the methods here answer is the only

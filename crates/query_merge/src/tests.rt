@@ -541,6 +541,7 @@ fn two_merges_of_a_query_are_joined(rt: HostRuntime) -> Result<(), Fail> {
 #[test]
 fn laws_take_no_step(_rt: HostRuntime) {
     rows_in_any_order();
+    parts_are_rows();
     parts_stay_bounded();
     answers_are_told_once();
     points_are_first();

@@ -1,6 +1,5 @@
 -- Two ascending lists of samples come to one.
-use Rattle.std.proofs.Common.{◌≡◌, ℕ, ◌+◌, ◌<◌, ◌≤◌, List, [], ◌∷◌, ◌++◌, ◌⊎◌, Bool, true, false, cond, arith, Less, Equal, Greater, length, refl, sym, ap, subst, inl, inr, ◌∙◌}
-use Rattle.std.specs.Prelude.{fold}
+use Rattle.std.proofs.Common.{◌≡◌, ℕ, ◌+◌, ◌<◌, List, [], ◌∷◌, ◌++◌, Bool, true, false, cond, arith, Less, Equal, Greater, length, refl, sym, ap, subst, inl, inr, ◌∙◌}
 use Rattle.std.specs.List.{AllByRecursion}
 use Rattle.std.specs.List.Sorted.{IsStrictlySortedBy}
 use Rattle.std.specs.Map.{keys_of, values_of}
@@ -14,7 +13,7 @@ use Rattle.profile_model.specs.StackOrder.{stack_eq, stacks_total}
 use Rattle.profile_model.specs.Stacks.{stack_cmp}
 use Rattle.profile_model.specs.SumLaw.{value_in}
 use Rattle.profile_model.specs.Sums.{AreSums, Sample, sums_of, total_of, with_added}
-use Rattle.query_merge.specs.Joining.{Goes, GoTogether, IsBelowFirst, IsNext}
+use Rattle.query_merge.specs.Joining.{Goes, IsBelowFirst, IsNext}
 use Rattle.query_merge.specs.Merging.{with_samples}
 use Rattle.query_merge.proofs.SumLemmas.{value_in-append, value_in-sums}
 
@@ -242,12 +241,12 @@ walk-ends from others samples sums room walk =
     let total : total_of samples ≡ total_of from + total_of others = (let all = walk.total in omega arith) in (
       record { ascending = ascends; positive = positive; bounded = omega (arith, room, total) },
       sums_of-only (from ++ others) samples
-      (record {
-        ascending = ascends;
-        positive = positive;
-        exact = λ q. sym (value_in-sums samples q ascends) ∙ same q;
-      })
-      ∙ sym (with_samples-both from others) ∙ ap (λ list. with_samples list others) (sym (sums_of-sums from sums)),
+          (record {
+            ascending = ascends;
+            positive = positive;
+            exact = λ q. sym (value_in-sums samples q ascends) ∙ same q;
+          })
+          ∙ sym (with_samples-both from others) ∙ ap (λ list. with_samples list others) (sym (sums_of-sums from sums)),
       total,
     )
   where

@@ -1,6 +1,6 @@
 -- Sums that are kept as several lists.
-use Rattle.std.proofs.Common.{◌≡◌, ℕ, zero, suc, ◌+◌, ◌-◌, ◌<◌, ◌≤◌, List, [], ◌∷◌, ◌++◌, arith, Bool, true, false, refl, sym, ap, subst, ◌∙◌, length, take, get_or, true≢false}
-use Rattle.std.specs.Prelude.{◌==◌, fold, flat_map}
+use Rattle.std.proofs.Common.{◌≡◌, ℕ, zero, suc, ◌+◌, ◌-◌, ◌<◌, List, [], ◌∷◌, ◌++◌, arith, Bool, true, false, refl, sym, ap, subst, ◌∙◌, length, take, get_or}
+use Rattle.std.specs.Prelude.{◌==◌}
 use Rattle.std.specs.List.{All, AllByRecursion}
 use Rattle.std.specs.List.Sorted.{IsStrictlySortedBy}
 use Rattle.std.specs.Map.{keys_of}
@@ -8,15 +8,14 @@ use Rattle.std.specs.declared.alloc.Global.{Global}
 use Rattle.std.specs.declared.vec.Vec.{Vec}
 use Rattle.std.proofs.lemmas.Bool.{eqb-true}
 use Rattle.std.proofs.lemmas.Grind.{flat_map-append}
-use Rattle.std.proofs.lemmas.List.{take_more, length-take}
+use Rattle.std.proofs.lemmas.List.{take_more}
 use Rattle.std.proofs.lemmas.List.Elements.{All-get_or, All-from_recursion, recursion_from_All}
-use Rattle.std.proofs.lemmas.List.Sums.{fold-append}
 use Rattle.profile_model.proofs.SumLawLemmas.{sums_of-any_order, sums_of-are, sums_of-only}
 use Rattle.profile_model.proofs.SumLemmas.{total-insert}
 use Rattle.profile_model.specs.Limits.{total_bound}
 use Rattle.profile_model.specs.Stacks.{stack_cmp}
 use Rattle.profile_model.specs.SumLaw.{value_in}
-use Rattle.profile_model.specs.Sums.{AreSums, Sample, sums_of, total_of, value_of, with_added}
+use Rattle.profile_model.specs.Sums.{AreSums, Sample, sums_of, total_of, with_added}
 use Rattle.query_merge.specs.Merging.{with_samples}
 use Rattle.query_merge.specs.Runs.{AreJoined, AreRuns, all_samples}
 use Rattle.query_merge.proofs.JoinLemmas.{sums_of-sums, total_of-append, total_of-cons, with_samples-both}

@@ -19,8 +19,8 @@ pub use grid::{MAX_STEP, MAX_TIME_MS};
 pub use groups::Series;
 pub use label_lists::LabelLists;
 pub use laws::{
-    answers_are_told_once, one_query_of_a_text, parts_are_rows, parts_stay_bounded, points_are_first,
-    rows_in_any_order,
+    answers_are_told_once, one_query_of_a_text, parts_are_rows, parts_stay_bounded,
+    points_are_first, rows_in_any_order,
 };
 pub use merge::Merge;
 pub use points::Points;

@@ -54,7 +54,8 @@ impl Merge {
         ensures err { OnErr result (self.new ≡ self.old) }
     {
         let samples = samples_of_part(self.alloc, &mut self.asked, &part.rows)?;
-        self.runs.put(samples)
+        self.runs.put(samples)?;
+        Ok(())
     }
 
     /// Adds the rows that were added to another merge of the same query. Want of memory leaves the sums as they were.
@@ -66,7 +67,8 @@ impl Merge {
         ensures query { self.new.query ≡ self.old.query }
         ensures err { OnErr result (self.new ≡ self.old) }
     {
-        self.runs.put(other.runs.samples()?)
+        self.runs.put(other.runs.samples()?)?;
+        Ok(())
     }
 
     /// The sums.

@@ -88,10 +88,7 @@ fn joined_with_last(
     Ok((left, run))
 }
 
-fn all_joined(
-    alloc: Global,
-    runs: &[Vec<(Stack, u64)>],
-) -> Result<Vec<(Stack, u64)>, AllocError>
+fn all_joined(alloc: Global, runs: &[Vec<(Stack, u64)>]) -> Result<Vec<(Stack, u64)>, AllocError>
     requires { AreRuns runs.now }
     ensures sums { IfOk result (λ samples. AreSums samples.items) }
     ensures all { IfOk result (λ samples. samples.items ≡ sums_of (all_samples runs.now)) }

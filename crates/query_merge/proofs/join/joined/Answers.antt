@@ -1,4 +1,4 @@
-use Rattle.std.proofs.Common.{◌≡◌, ◌∷◌, ◌++◌, [], rules, sym, subst}
+use Rattle.std.proofs.Common.{◌≡◌, [], rules, sym, subst}
 use Rattle.query_merge.specs.Joining.{IsNext}
 use Rattle.query_merge.proofs.JoinLemmas.{Walked, walk-ends, walk-goes_on}
 use Rattle.query_merge.proofs.join.joined.Goals as goal

@@ -1,7 +1,6 @@
-use Rattle.std.proofs.Common.{◌≡◌, ◌+◌, ◌∷◌, ◌++◌, [], ◌<◌, ◌∙◌, length, take, rules, arith, sym, ap}
+use Rattle.std.proofs.Common.{◌≡◌, ◌+◌, ◌∷◌, ◌++◌, [], ◌∙◌, length, take, rules, arith, sym, ap}
 use Rattle.std.proofs.lemmas.List.{take_more_set}
-use Rattle.profile_model.specs.Limits.{total_bound}
-use Rattle.profile_model.specs.Sums.{sums_of, total_of}
+use Rattle.profile_model.specs.Sums.{total_of}
 use Rattle.query_merge.specs.Merging.{with_samples}
 use Rattle.query_merge.specs.Runs.{AreJoined, all_samples}
 use Rattle.query_merge.proofs.RunLemmas.{ArePut, are-put, has_room, take_all}

@@ -82,6 +82,12 @@ fn do_times(rt: &HostRuntime, text: &[u8], work: Work) -> io::Result<u64> {
     };
     for _ in 0..work.times {
         let asks = asks(alloc, text, work.together)?;
+        // A settle's callers know this of their pushes: it counts to their making.
+        if asks.len() > 64 || !are_light(&asks) {
+            return Err(io::Error::other(
+                "a settle takes up to 64 pushes within their limit of weight",
+            ));
+        }
         if work.settles {
             settle_once(alloc, &mut store, asks)?;
         }
@@ -89,10 +95,10 @@ fn do_times(rt: &HostRuntime, text: &[u8], work: Work) -> io::Result<u64> {
     Ok(store.len())
 }
 
-fn settle_once(alloc: Global, store: &mut Store<DirDisk>, asks: Vec<PushAsk>) -> io::Result<()> {
-    if asks.len() > 64 || !are_light(&asks) {
-        return Err(io::Error::other("a settle takes up to 64 pushes within their limit of weight"));
-    }
+fn settle_once(alloc: Global, store: &mut Store<DirDisk>, asks: Vec<PushAsk>) -> io::Result<()>
+    requires few { length asks.items ≤ 64 }
+    requires light { All (λ ask. IsLight ask.push) asks.items }
+{
     match store.settle(alloc, asks) {
         Ok(_) => Ok(()),
         Err(SettleFault::Memory) => Err(io::Error::from(AllocError)),

@@ -3,12 +3,12 @@ use Rattle.std.proofs.Common.{◌≡◌, ◌≢◌, inl, inr, ℕ, zero, suc, �
 use Rattle.std.proofs.lemmas.List.{take-append-drop, take_more}
 use Rattle.disk_trait.specs.declared.disk.FileId.{FileId}
 use Rattle.disk_trait.specs.declared.disk.FileId.TheVariants.{Index, Object}
-use Rattle.disk_trait.specs.Disk.{Files, DiskView, Leads, Looks, Tells, bytes_of}
+use Rattle.disk_trait.specs.Disk.{Files, DiskView, GoesOn, IsDurable, Leads, Looks, Tells, bytes_of}
 use Rattle.disk_trait.proofs.Steps.{goes_on, stays_after}
 use Rattle.faults.specs.Answers.{IfFault}
 use Rattle.faults.specs.declared.refused.Refused.{Refused}
 use Rattle.faults.specs.declared.refused.Refused.TheVariants.{Fault, Memory}
-use Rattle.gate_journal.specs.Journal.{JournalView}
+use Rattle.gate_journal.specs.Journal.{JournalView, OthersStay}
 use Rattle.gate_journal.specs.Slots.{bodies_of}
 use Rattle.metastore_index.specs.declared.entry.Entry.{Entry}
 use Rattle.metastore_index.specs.Entries.{AreEntries, DivideFrom, IndexView, end_of}
@@ -21,13 +21,13 @@ use Rattle.history_files.specs.History.IsBlamed.{object as blames_object}
 use Rattle.history_files.specs.Keeps.{Keeping, start_at}
 use Rattle.history_files.specs.Standing.{IsAtRest, IsPrepared, KeepsLive, NoneFrom, SameOrStand, Spares, StandAlike, is_spare_file}
 use Rattle.history_files.proofs.HeldLemmas.{held_alike, held_append, held_one, length_held, one_object}
-use Rattle.history_files.proofs.KeepLemmas.{keeps_begun}
+use Rattle.history_files.proofs.KeepLemmas.{keeps_begun, keeps_same}
 use Rattle.history_files.proofs.OpenLemmas.{index_reads, prepared_rests, prepared_stands}
 use Rattle.history_files.proofs.RestLemmas.{rests_stand, rests_still}
 use Rattle.history_files.proofs.StandLemmas.{lists_divide, lists_ids, lists_once, not_index, stand_once}
 use Rattle.store_core.specs.declared.fault.OpenCause.{OpenCause}
 use Rattle.store_core.specs.declared.fault.OpenCause.TheVariants.{Damaged}
-use Rattle.store_core.specs.Opening.{AreCounted, IsRead, StopsAt}
+use Rattle.store_core.specs.Opening.{AreCounted, HasDurableIndex, IsRead, StopsAt}
 use Rattle.store_core.proofs.KeptLemmas.{kept_reads}
 use Rattle.store_core.proofs.OtherLemmas.{live_cleared}
 use Rattle.store_core.proofs.RoomLemmas.{lists_short}
@@ -166,6 +166,18 @@ module _ (records : ℕ) (old mid : DiskView) (journal : JournalView) (index : I
       λ stands. subst (λ (h : List Push). StandFor records old.files h) (stand_once records image history other has stands) stood,
     )
 
+    -- what was prepared has its index file on the disk
+    pub prepared_durable : (other : List Push) → StandFor records old.files other → Leads (OthersStay (Index 0)) old mid → HasDurableIndex records old mid other
+    prepared_durable other stands run = record {
+      durable = subst (λ (file : FileId). IsDurable file mid) it.file it.settled.durable;
+      others = it.others;
+      touches = run;
+      stands = λ image left.
+          subst (λ (h : List Push). StandFor records image h) (stand_once records old.files history other stood stands)
+          (subst (λ (n : ℕ). StandFor n image history) it.limit
+          (rests_stand mid journal index history (prepared_rests records old mid journal index history it reads counted.totals) image left));
+    }
+
     module _ (look new : DiskView) (looks : Looks mid look) (tells : Tells look) (others : List Entry) (alike : others ≡ index.entries) (spares : Spares others look new) where
       rests : IsAtRest mid journal index history
       rests = prepared_rests records old mid journal index history it reads counted.totals
@@ -194,10 +206,19 @@ module _ (records : ℕ) (old mid : DiskView) (journal : JournalView) (index : I
             subst (λ (h : List Push). StandFor records image h) (stand_once records old.files history other stood stands)
             (subst (λ (n : ℕ). StandFor n image history) it.limit after)
 
+        before_stands : (image : Files) → mid.images_now image → StandFor records image other
+        before_stands image left = stand_after image (rests_stand mid journal index history rests image left)
+
         -- each since the sync, where calls did
         pub cleared_stand : (synced : DiskView) → Leads (λ before image. StandFor records image other) synced mid → Leads (λ before image. StandFor records image other) synced new
         cleared_stand synced run = goes_on (stays_after run looks.stays) cleared.1
             (λ before image left step. step)
+            (λ before between image left first now after. stand_after image after)
+
+        -- each since the index file was on the disk
+        pub cleared_after : Leads (λ before image. StandFor records image other) mid new
+        cleared_after = goes_on looks.stays cleared.1
+            (λ before image left same. subst (λ (f : Files). StandFor records f other) (sym same) (before_stands before left))
             (λ before between image left first now after. stand_after image after)
 
         -- and each from the first on
@@ -233,3 +254,12 @@ module _ (records : ℕ) (old new : DiskView) (journal : JournalView) (index : I
     -- a start there keeps it
     pub read_keeps : (IsFlight : List Push → List Push → Type 0) → Keeping records (start_at new other) IsFlight new other []
     read_keeps IsFlight = record { keeps = keeps_begun records IsFlight new other read_images; risen = inl refl }
+
+-- ---- since the index file was on the disk
+
+pub keeps_since : (records : ℕ) (IsFlight : List Push → List Push → Type 0) (old mid new : DiskView) (history : List Push) → HasDurableIndex records old mid history → GoesOn mid new
+    → Leads (λ before image. StandFor records image history) mid new → Keeping records (start_at mid history) IsFlight new history []
+keeps_since records IsFlight old mid new history has goes run = record {
+  keeps = keeps_same records (start_at mid history) IsFlight mid new history (keeps_begun records IsFlight mid history has.stands) goes run;
+  risen = inl refl;
+}

@@ -1,9 +1,9 @@
 -- What an opening reads of a disk.
 use Rattle.std.specs.Prelude.{◌≡◌, ℕ, ◌+◌, List, ◌∷◌, ◌++◌, true, None}
 use Rattle.disk_trait.specs.declared.disk.FileId.{FileId}
-use Rattle.disk_trait.specs.declared.disk.FileId.TheVariants.{Object}
-use Rattle.disk_trait.specs.Disk.{DiskView, Files}
-use Rattle.gate_journal.specs.Journal.{JournalView}
+use Rattle.disk_trait.specs.declared.disk.FileId.TheVariants.{Index, Object}
+use Rattle.disk_trait.specs.Disk.{DiskView, Files, IsDurable, Leads}
+use Rattle.gate_journal.specs.Journal.{JournalView, OthersStay}
 use Rattle.metastore_index.specs.declared.entry.Entry.{Entry}
 use Rattle.metastore_index.specs.Entries.{IndexView}
 use Rattle.profile_model.specs.declared.push.Push.{Push}
@@ -34,3 +34,11 @@ pub record StopsAt (files : Files) (entries : List Entry) (file : FileId) : Type
 pub record IsRead (records : ℕ) (old new : DiskView) (journal : JournalView) (index : IndexView) (books : BooksView) (history : List Push) : Type 0 where
   pub stood : StandFor records old.files history
   pub kept : IsKept new journal index None books true history
+
+-- The index file was brought onto the disk, where it is from now on, and no other file was touched until then. What a crash may
+-- leave now stands for this history.
+pub record HasDurableIndex (records : ℕ) (old new : DiskView) (history : List Push) : Type 0 where
+  pub durable : IsDurable (Index 0) new
+  pub others : OthersStay (Index 0) old.files new.files
+  pub touches : Leads (OthersStay (Index 0)) old new
+  pub stands : (image : Files) → new.images_now image → StandFor records image history

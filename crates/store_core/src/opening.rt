@@ -13,7 +13,7 @@ ghost use Rattle.history_files.specs.History.{HasIndex, IsBlamed, IsObjectOf, St
 ghost use Rattle.history_files.specs.Keeps.{Keeps, Start, start_at};
 ghost use Rattle.store_core.specs.Changes.{HasNoSpares, LeavesOthers};
 ghost use Rattle.history_files.specs.Standing.{is_spare, is_spare_file, IsSynced, SameOrStand, StandAlike};
-ghost use Rattle.store_core.specs.Opening.{AreCounted, IsRead, StopsAt};
+ghost use Rattle.store_core.specs.Opening.{AreCounted, HasDurableIndex, IsRead, StopsAt};
 ghost use Rattle.store_core.specs.Store.{HasHistory, IsKeeping};
 
 use crate::fault::{OpenCause, OpenRefused};
@@ -105,6 +105,9 @@ fn read_all<D: Disk>(
     ensures synced { (history : List Push) → Tells (D.view disk.old) → StandFor records (D.view disk.old).files history
         → IsSome ((D.view disk.old).files (names.Index 0)) ⊎ IsDurable (names.Index 0) (D.view disk.old)
         → IfOk result (λ read. (synced : D) × IsSynced (D.view disk.old) (D.view synced) × Leads (λ before image. StandFor records image history) (D.view synced) (D.view disk.new)) }
+    ensures index_durable { (history : List Push) → Tells (D.view disk.old) → StandFor records (D.view disk.old).files history
+        → IfOk result (λ read. (durable : D) × HasDurableIndex records (D.view disk.old) (D.view durable) history × GoesOn (D.view durable) (D.view disk.new)
+        × Leads (λ before image. StandFor records image history) (D.view durable) (D.view disk.new)) }
     ensures stands_on { (history : List Push) → Tells (D.view disk.old) → StandFor records (D.view disk.old).files history
         → IsSome ((D.view disk.old).files (names.Index 0)) ⊎ IsDurable (names.Index 0) (D.view disk.old)
         → Leads (SameOrStand records history) (D.view disk.old) (D.view disk.new) }
@@ -199,6 +202,12 @@ impl<D: Disk> Store<D> {
             → IsSome ((D.view disk).files (names.Index 0)) ⊎ IsDurable (names.Index 0) (D.view disk)
             → IfOk result (λ store. (synced : D) × IsSynced (D.view disk) (D.view synced) × Leads (λ before image. StandFor records image history) (D.view synced) (D.view store.disk)) }
 
+        // Also where the index file isn't there and calls on it still waited for a sync: it is brought onto the disk before any
+        // other file is touched, and from there on each image stands for the history.
+        ensures index_durable { (history : List Push) → Tells (D.view disk) → StandFor records (D.view disk).files history
+            → IfOk result (λ store. (durable : D) × HasDurableIndex records (D.view disk) (D.view durable) history
+            × Leads (λ before image. StandFor records image history) (D.view durable) (D.view store.disk)) }
+
         // From there on the index file stands for the bodies that it stood for.
         ensures same_bodies { Tells (D.view disk) → IsSome ((D.view disk).files (names.Index 0)) ⊎ IsDurable (names.Index 0) (D.view disk)
             → IfOk result (λ store. (synced : D) × IsSynced (D.view disk) (D.view synced)
@@ -220,6 +229,9 @@ impl<D: Disk> Store<D> {
             → Keeps records start (λ past flight. Contains flights (past, flight)) (D.view disk) history → IfErr result (λ refused. Keeps records start (λ past flight. Contains flights (past, flight)) (D.view refused.disk) history) }
         ensures since { (history : List Push) → (flights : List (List Push × List Push)) → Tells (D.view disk) → IsQuiet (D.view disk) → StandFor records (D.view disk).files history
             → IfOk result (λ store. IsKeeping (start_at (D.view disk) history) flights (D.view store.disk) store history) }
+        ensures since_index_durable { (history : List Push) → (flights : List (List Push × List Push)) → Tells (D.view disk) → StandFor records (D.view disk).files history
+            → IfOk result (λ store. (durable : D) × HasDurableIndex records (D.view disk) (D.view durable) history
+            × IsKeeping (start_at (D.view durable) history) flights (D.view store.disk) store history) }
         ensures since_opened { (history : List Push) → (flights : List (List Push × List Push)) → Tells (D.view disk) → StandFor records (D.view disk).files history
             → IfOk result (λ store. IsKeeping (start_at (D.view store.disk) history) flights (D.view store.disk) store history) }
         ensures goes_on { IfOk result (λ store. GoesOn (D.view disk) (D.view store.disk)) }

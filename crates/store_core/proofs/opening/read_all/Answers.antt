@@ -1,8 +1,8 @@
-use Rattle.std.proofs.Common.{◌≡◌, ◌+◌, Err, ap, ◌∙◌}
-use Rattle.disk_trait.specs.Disk.{Tells}
+use Rattle.std.proofs.Common.{◌≡◌, ◌+◌, Err, ap, arith, ◌∙◌}
+use Rattle.disk_trait.specs.Disk.{GoesOn, Tells}
 use Rattle.disk_trait.proofs.Steps.{stays_after, widen}
 use Rattle.store_core.proofs.OtherLemmas.{bodies_cleared, live_opened, others_again, others_cleared, others_opened}
-use Rattle.store_core.proofs.OpenLemmas.{cause_is, cleared_alike, cleared_on, cleared_stand, entries_are, entries_short, ids_next, is_read, not_nothing, spares_failed, stops_blamed}
+use Rattle.store_core.proofs.OpenLemmas.{cause_is, cleared_after, cleared_alike, cleared_on, cleared_stand, entries_are, entries_short, ids_next, is_read, not_nothing, prepared_durable, spares_failed, stops_blamed}
 use Rattle.store_core.proofs.opening.read_all.Goals as goal
 
 pub returns-in-Err-clause-damaged : goal.returns-in-Err-clause-damaged
@@ -84,6 +84,28 @@ returns-in-Ok-remove_spares-clause-synced g c history t stands listed =
       cleared_stand c.args.records old mid c.in-Ok.pair.0 c.in-Ok.pair.1 it _ c.entries.ensures.entries c.in-Ok-count_objects.books (c.in-Ok-count_objects.ensures.counted t-mid)
           look new c.count_objects.ensures.looks t-look _ c.entries-2.ensures.entries (c.remove_spares.ensures.spares t-look)
           history stands (g.D.Disk.view waited.0) waited.2,
+    )
+
+pub returns-in-Ok-remove_spares-clause-index_durable : goal.returns-in-Ok-remove_spares-clause-index_durable
+returns-in-Ok-remove_spares-clause-index_durable g c history t stands =
+    let old = g.D.Disk.view c.args.disk.now in
+    let mid = g.D.Disk.view c.open_index.new.disk in
+    let look = g.D.Disk.view c.count_objects.new.disk in
+    let new = g.D.Disk.view c.remove_spares.new.disk in
+    let t-mid : Tells mid = c.open_index.ensures.goes_on.honest ∙ t in
+    let t-look : Tells look = c.count_objects.ensures.goes_on.honest ∙ t-mid in
+    let it = c.in-Ok.ensures.prepared t in
+    let goes : GoesOn mid new = record {
+      honest = c.remove_spares.ensures.goes_on.honest ∙ c.count_objects.ensures.goes_on.honest;
+      faults = omega (arith, c.count_objects.ensures.goes_on.faults, c.remove_spares.ensures.goes_on.faults);
+    } in (
+      c.open_index.new.disk,
+      prepared_durable c.args.records old mid c.in-Ok.pair.0 c.in-Ok.pair.1 it _ c.entries.ensures.entries c.in-Ok-count_objects.books (c.in-Ok-count_objects.ensures.counted t-mid)
+          history stands c.open_index.ensures.touches,
+      goes,
+      cleared_after c.args.records old mid c.in-Ok.pair.0 c.in-Ok.pair.1 it _ c.entries.ensures.entries c.in-Ok-count_objects.books (c.in-Ok-count_objects.ensures.counted t-mid)
+          look new c.count_objects.ensures.looks t-look _ c.entries-2.ensures.entries (c.remove_spares.ensures.spares t-look)
+          history stands,
     )
 
 pub returns-in-Ok-remove_spares-clause-same_bodies : goal.returns-in-Ok-remove_spares-clause-same_bodies

@@ -2,7 +2,7 @@ use Rattle.std.proofs.Common.{◌∙◌, ap, Err}
 use Rattle.std.specs.Prelude.{Contains}
 use Rattle.disk_trait.specs.Disk.{Tells}
 use Rattle.history_files.proofs.KeepLemmas.{keeps_opened, opened_keeps}
-use Rattle.store_core.proofs.OpenLemmas.{other_has, read_images, read_keeps, read_reads}
+use Rattle.store_core.proofs.OpenLemmas.{keeps_since, other_has, read_images, read_keeps, read_reads}
 use Rattle.store_core.proofs.store.Store.open.Goals as goal
 
 pub returns-in-Ok-clause-images : goal.returns-in-Ok-clause-images
@@ -33,6 +33,26 @@ returns-in-Ok-clause-since_opened g c history flights t stands =
       has = other_has c.args.records old new c.in-Ok.journal c.in-Ok.index c.in-Ok.books read.0 read.1 c.in-Ok.ensures.journal.1 history stands t-new;
       keeping = read_keeps c.args.records old new c.in-Ok.journal c.in-Ok.index c.in-Ok.books read.0 read.1 c.in-Ok.ensures.journal.1 history stands (λ past flight. Contains flights (past, flight));
     }
+
+pub returns-in-Ok-clause-index_durable : goal.returns-in-Ok-clause-index_durable
+returns-in-Ok-clause-index_durable g c history t stands =
+    let it = c.in-Ok.ensures.index_durable history t stands in
+    (it.0, it.1, it.3)
+
+pub returns-in-Ok-clause-since_index_durable : goal.returns-in-Ok-clause-since_index_durable
+returns-in-Ok-clause-since_index_durable g c history flights t stands =
+    let old = g.D.Disk.view c.args.disk in
+    let new = g.D.Disk.view c.read_all.new.disk in
+    let t-new : Tells new = c.read_all.ensures.goes_on.honest ∙ t in
+    let read = c.in-Ok.ensures.told t in
+    let it = c.in-Ok.ensures.index_durable history t stands in (
+      it.0,
+      it.1,
+      record {
+        has = other_has c.args.records old new c.in-Ok.journal c.in-Ok.index c.in-Ok.books read.0 read.1 c.in-Ok.ensures.journal.1 history stands t-new;
+        keeping = keeps_since c.args.records (λ past flight. Contains flights (past, flight)) old (g.D.Disk.view it.0) new history it.1 it.2 it.3;
+      },
+    )
 
 pub returns-in-Ok-clause-index_read : goal.returns-in-Ok-clause-index_read
 returns-in-Ok-clause-index_read g c t =

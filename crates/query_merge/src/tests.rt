@@ -511,6 +511,12 @@ fn profiles_count_at_the_first_point_that_is_not_before_them(rt: HostRuntime) ->
     Ok(())
 }
 
+#[test]
+fn points_are_at_most_366_days_apart_up_to_the_end_of_the_year_9999(rt: HostRuntime) {
+    assert_eq!(rt; MAX_STEP, 366 * 24 * 60 * 60);
+    assert_eq!(rt; MAX_TIME_MS, 253_402_300_799_999);
+}
+
 // ---- two merges
 
 fn joins(

@@ -1,6 +1,6 @@
 // What becomes of a store after a fault of its disk.
 ghost use Rattle.std.specs.Prelude.{◌≡◌, ◌⊎◌, ◌+◌, ◌++◌, [], List, ℕ, true, false, IfOk, OnOk, OnErr, IsErrOf, IsOk, None, length};
-ghost use Rattle.disk_trait.specs.Disk.{GoesOn, Leads, Rose, Tells};
+ghost use Rattle.disk_trait.specs.Disk.{GoesOn, Leads, Rose, Stays, Tells};
 ghost use Rattle.metastore_index.specs.Entries.{end_of};
 ghost use Rattle.profile_model.specs.declared.push.Push.{Push};
 ghost use Rattle.history_files.specs.History.{StandFor};
@@ -46,6 +46,7 @@ impl<D: Disk> Store<D> {
         ensures failed { (count : ℕ) → IsErrOf result (MendFault.Disk count) → (count ≡ (D.view self.new.disk).faults) × Rose (D.view self.old.disk).faults count }
         ensures memory { IsErrOf result MendFault.Memory → (D.view self.new.disk).faults ≡ (D.view self.old.disk).faults }
         ensures quiet { OnOk result ((D.view self.new.disk).faults ≡ (D.view self.old.disk).faults) }
+        ensures stays { Leads Stays (D.view self.old.disk) (D.view self.new.disk) }
         ensures others { Leads LeavesOthers (D.view self.old.disk) (D.view self.new.disk) }
         ensures index { Tells (D.view self.old.disk) → TakesFlight self.old self.new }
         ensures goes_on { GoesOn (D.view self.old.disk) (D.view self.new.disk) }

@@ -1,5 +1,5 @@
 // A store of pushes over a disk.
-ghost use Rattle.std.specs.Prelude.{◌≡◌, ◌^◌, ◌<◌, ◌≤◌, ◌++◌, List, IfSome, None, length};
+ghost use Rattle.std.specs.Prelude.{◌≡◌, ◌+◌, ◌^◌, ◌<◌, ◌≤◌, ◌++◌, List, IfSome, None, length, true};
 ghost use Rattle.disk_trait.specs.Disk.{Files, Tells, bytes_of};
 ghost use Rattle.disk_trait.specs.declared.disk.FileId.TheVariants as names;
 ghost use Rattle.gate_journal.specs.Slots.{bodies_of};
@@ -8,6 +8,7 @@ ghost use Rattle.profile_model.specs.declared.push.Push.{Push};
 ghost use Rattle.push_history.specs.History.{front_of};
 ghost use Rattle.history_files.specs.History.{HasIndex};
 ghost use Rattle.history_files.specs.Keeps.{StandForEither, most_pushes};
+ghost use Rattle.history_files.specs.Standing.{NoneFrom};
 ghost use Rattle.store_core.specs.Store.{HasHistory, IsBehind, in_flight};
 
 use crate::flight::Flight;
@@ -82,13 +83,16 @@ impl<D: Disk> Store<D> {
     }
 
     /// It has a history, and each image stands for that, or for that with the flight behind it. With nothing in the air its
-    /// index is what the index file lists. A flight is few pushes, under an entry behind all others. It does nothing.
+    /// index is what the index file lists. A store that is sure has nothing in the air, and no object with an id that is still to
+    /// come. A flight is few pushes, under an entry behind all others. It does nothing.
     pub fn stands(&self)
         ensures has { Tells (D.view self.now.disk) → (history : List Push) × HasHistory (D.view self.now.disk) self.now history }
         ensures images { (history : List Push) → Tells (D.view self.now.disk) → HasHistory (D.view self.now.disk) self.now history
             → (image : Files) → (D.view self.now.disk).images_now image → StandForEither self.now.records history (history ++ in_flight self.now.flight) image }
         ensures index { Tells (D.view self.now.disk) → self.now.flight ≡ None → HasIndex self.now.records (D.view self.now.disk).files self.now.index
             × (self.now.count ≡ length (bodies_of (bytes_of ((D.view self.now.disk).files (names.Index 0))))) }
+        ensures none { Tells (D.view self.now.disk) → self.now.sure ≡ true → NoneFrom (self.now.index.greatest + 1) (D.view self.now.disk).files }
+        ensures settled { self.now.sure ≡ true → self.now.flight ≡ None }
         ensures few { length (in_flight self.now.flight) ≤ most_pushes }
         ensures behind { IfSome self.now.flight (IsBehind self.now.index.entries) }
         ensures short { end_of self.now.index.entries < 2 ^ 63 }

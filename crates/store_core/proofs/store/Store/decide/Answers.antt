@@ -1,7 +1,7 @@
 use Rattle.std.proofs.Common.{◌≡◌, ◌⊎◌, ◌≤◌, ◌<◌, ◌+◌, ◌++◌, inl, inr, ap, sym, ◌∙◌, subst, refl, Some, None, Option, Bool, List, [], ℕ, true, false, length, arith, append-nil}
 use Rattle.std.proofs.lemmas.Bool.{false≢true}
 use Rattle.std.specs.Option.{option_map}
-use Rattle.disk_trait.specs.Disk.{Tells, Files, Leads}
+use Rattle.disk_trait.specs.Disk.{Tells, Files, Leads, Stays}
 use Rattle.disk_trait.proofs.Steps.{still}
 use Rattle.metastore_index.specs.Entries.{end_of}
 use Rattle.profile_model.specs.declared.push.Push.{Push}
@@ -39,6 +39,10 @@ pub returns-in_default-clause-others : goal.returns-in_default-clause-others
 returns-in_default-clause-others g c =
     let old = g.D.Disk.view c.self.inside.disk in
     subst (λ s. Leads LeavesOthers (g.D.Disk.view s.disk) old) c.self.view_is (others_still old old (still old))
+
+pub returns-in_default-clause-stays : goal.returns-in_default-clause-stays
+returns-in_default-clause-stays g c =
+    let old = g.D.Disk.view c.self.inside.disk in subst (λ s. Leads Stays (g.D.Disk.view s.disk) old) c.self.view_is (still old)
 
 pub returns-in_default-clause-index : goal.returns-in_default-clause-index
 returns-in_default-clause-index g c t =

@@ -11,6 +11,7 @@ use Rattle.store_core.specs.Store.{FlightView, HasHistory, Invariant, IsBehind, 
 use Rattle.store_core.specs.Changes.{IsMended}
 use Rattle.history_files.specs.History.{HasIndex}
 use Rattle.history_files.specs.Keeps.{StandForEither, most_pushes}
+use Rattle.history_files.specs.Standing.{NoneFrom}
 use Rattle.store_core.proofs.KeptLemmas.{images_as, index_as}
 use Rattle.store_core.proofs.store.Store.stands.Goals as goal
 
@@ -23,6 +24,15 @@ pub returns-clause-index : goal.returns-clause-index
 returns-clause-index g c =
     subst (λ s. Tells (g.D.Disk.view s.disk) → s.flight ≡ None → HasIndex s.records (g.D.Disk.view s.disk).files s.index × (s.count ≡ length (bodies_of (bytes_of ((g.D.Disk.view s.disk).files (Index 0)))))) c.self.view_is
     (λ t none. index_as (g.D.Disk.view c.self.inside.disk) c.self.inside.journal c.self.inside.index _ c.self.inside.books c.self.inside.sure c.self.inside.records c.self.invariant t none)
+
+pub returns-clause-none : goal.returns-clause-none
+returns-clause-none g c =
+    subst (λ s. Tells (g.D.Disk.view s.disk) → s.sure ≡ true → NoneFrom (s.index.greatest + 1) (g.D.Disk.view s.disk).files) c.self.view_is
+    (λ t sure. (c.self.invariant.told t).1.none sure)
+
+pub returns-clause-settled : goal.returns-clause-settled
+returns-clause-settled g c = subst (λ s. s.sure ≡ true → s.flight ≡ None) c.self.view_is
+    c.self.invariant.settled
 
 pub returns-clause-few : goal.returns-clause-few
 returns-clause-few g c = subst (λ s. length (in_flight s.flight) ≤ most_pushes) c.self.view_is c.self.invariant.few

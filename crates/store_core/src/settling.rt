@@ -154,6 +154,7 @@ impl<D: Disk> Store<D> {
             → IfOk result (λ settled. IsSettled D.view self.old self.new history asks.items settled.verdicts.items) }
         ensures many { IfOk result (λ settled. length settled.verdicts.items ≡ length asks.items) }
         ensures kept { IfOk result (λ settled. settled.kept.items ≡ kept_of asks.items settled.verdicts.items) }
+        ensures room { IfOk result (λ settled. settled.kept.items ≢ [] → ¬ (IsFull self.old)) }
         ensures end { IfOk result (λ settled. end_of self.new.index.entries ≡ end_of self.old.index.entries + length settled.kept.items) }
         ensures same { OnErr result (HasSameIndex self.old self.new) }
         ensures sure { OnOk result ((self.new.sure ≡ true) × (self.new.flight ≡ None)) }
@@ -217,6 +218,7 @@ impl<D: Disk> Store<D> {
             → IfOk result (λ settled. FirstMended D.view self.old history (λ between next. IsSettled D.view between self.new next asks.items settled.verdicts.items)) }
         ensures many { IfOk result (λ settled. length settled.verdicts.items ≡ length asks.items) }
         ensures kept { IfOk result (λ settled. settled.kept.items ≡ kept_of asks.items settled.verdicts.items) }
+        ensures room { self.old.sure ≡ true → IfOk result (λ settled. settled.kept.items ≢ [] → ¬ (IsFull self.old)) }
         ensures end { self.old.flight ≡ None
             → IfOk result (λ settled. end_of self.new.index.entries ≡ end_of self.old.index.entries + length settled.kept.items) }
         ensures same_end { self.old.flight ≡ None → OnErr result (end_of self.new.index.entries ≡ end_of self.old.index.entries) }

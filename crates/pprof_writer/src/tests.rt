@@ -126,5 +126,9 @@ fn what_was_written_is_read_back(rt: HostRuntime) -> Result<(), Fail> {
     let text =
         "service_name=app other:samples:count:cpu:nanoseconds 5\nb;main;b 1\nmain 2\nmain;a 300\n";
     assert!(rt; is_read_back(rt.alloc(), KIND, &rows, text)?);
+    let folded: [Row; 3] = [(&["main", "a"], 3), (&["main", "b"], 5), (&["main"], 2)];
+    let same =
+        "service_name=app other:samples:count:cpu:nanoseconds 5\nmain 2\nmain;a 3\nmain;b 5\n";
+    assert!(rt; is_read_back(rt.alloc(), KIND, &folded, same)?);
     Ok(())
 }

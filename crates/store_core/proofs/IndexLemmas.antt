@@ -1,5 +1,5 @@
 -- What comes to a store's index.
-use Rattle.std.proofs.Common.{◌≡◌, ◌⊎◌, inl, inr, ⊎_elim, ℕ, ◌+◌, ◌<◌, ◌^◌, List, length, Some, Option, refl, sym, ◌∙◌, ap, subst, arith}
+use Rattle.std.proofs.Common.{◌≡◌, ◌⊎◌, inl, inr, ⊎_elim, ℕ, ◌+◌, ◌<◌, ◌^◌, List, length, Some, Option, None, [], refl, sym, ◌∙◌, ap, subst, arith}
 use Rattle.metastore_index.specs.declared.entry.Entry.{Entry}
 use Rattle.faults.specs.declared.refused.Refused.{Refused}
 use Rattle.faults.specs.declared.refused.Refused.TheVariants.{Fault, Memory}
@@ -8,8 +8,8 @@ use Rattle.metastore_index.specs.declared.fault.ApplyFault.TheVariants.{NotARun}
 use Rattle.metastore_index.specs.Entries.{Becomes, IndexView, IsTaken, end_of}
 use Rattle.metastore_index.proofs.EndLemmas.{end_moves}
 use Rattle.profile_model.specs.declared.push.Push.{Push}
-use Rattle.store_core.specs.Store.{FlightView, IsBehind, StoreView}
-use Rattle.store_core.specs.Changes.{HasOneMore, HasSameIndex, IsNextEntry, TakesFlight}
+use Rattle.store_core.specs.Store.{FlightView, IsBehind, StoreView, in_flight}
+use Rattle.store_core.specs.Changes.{EndsWithFlight, HasOneMore, HasSameIndex, IsNextEntry, TakesFlight}
 use Rattle.store_core.proofs.RoomLemmas.{roomy}
 
 pub same_index : {D : Type 0} (before after : StoreView D) → after.index ≡ before.index → after.count ≡ before.count → HasSameIndex before after
@@ -30,6 +30,21 @@ module _ {D : Type 0} (before after : StoreView D) (made : IndexView) (same : ma
     greatest = ap (λ (i : IndexView). i.greatest) (index ∙ same);
     count = count;
   }
+
+-- where the numbers end once some of the flight's pushes came, all or none
+pub ends_with : {D : Type 0} (store : StoreView D) (came : List Push) (end : ℕ) → (came ≡ []) ⊎ (came ≡ in_flight store.flight)
+    → end ≡ end_of store.index.entries + length came → EndsWithFlight store end
+ends_with store came end which is = ⊎_elim
+    (λ none. let short = ap (length {A = Push}) none in inl (omega arith))
+    (λ all. inr (is ∙ ap (λ (pushes : List Push). end_of store.index.entries + length pushes) all))
+    which
+
+-- with nothing in the air they end where they did
+pub lands_at : {D : Type 0} (store : StoreView D) (end : ℕ) → store.flight ≡ None → EndsWithFlight store end → end ≡ end_of store.index.entries
+lands_at store end none which = ⊎_elim
+    (λ same. same)
+    (λ all. let short = ap (λ flight. length (in_flight flight)) none in omega arith)
+    which
 
 pub takes_same : {D : Type 0} (before between after : StoreView D) → TakesFlight before between → HasSameIndex between after → TakesFlight before after
 takes_same before between after takes same = ⊎_elim

@@ -19,7 +19,8 @@ use Rattle.tenant_books.specs.Books.{BooksView}
 use Rattle.history_files.specs.History.{AreHeld, HasIndex, IsBlamed, IsObjectOf, StandFor}
 use Rattle.history_files.specs.History.IsBlamed.{object as blames_object}
 use Rattle.history_files.specs.Keeps.{Keeping, start_at}
-use Rattle.history_files.specs.Standing.{IsAtRest, IsPrepared, KeepsLive, NoneFrom, SameOrStand, Spares, StandAlike, is_spare_file}
+use Rattle.history_files.specs.Standing.{IsAtRest, IsPrepared, LosesSpares, NoneFrom, SameOrStand, Spares, StandAlike}
+use Rattle.store_core.specs.Changes.{OnlyClears}
 use Rattle.history_files.proofs.HeldLemmas.{held_alike, held_append, held_one, length_held, one_object}
 use Rattle.history_files.proofs.KeepLemmas.{keeps_begun, keeps_same}
 use Rattle.history_files.proofs.OpenLemmas.{index_reads, prepared_rests, prepared_stands}
@@ -136,10 +137,10 @@ module _ (records : ℕ) (old mid : DiskView) (journal : JournalView) (index : I
   same_entries other has = same ∙ lists_once (bodies_of (bytes_of (old.files (Index 0)))) index other it.has.lists has.lists
 
   -- a fault of the disk while they were cleared of spares
-  pub spares_failed : (look new : DiskView) → Leads (λ before image. (one : FileId) → one ≢ Index 0 → image one ≡ before one) old mid → Looks mid look → Leads (KeepsLive entries) look new
-      → (other : IndexView) → HasIndex records old.files other → Leads (λ before image. (one : FileId) → one ≢ Index 0 → is_spare_file one other.entries ≡ false → image one ≡ before one) old new
+  pub spares_failed : (look new : DiskView) → Leads (λ before image. (one : FileId) → one ≢ Index 0 → image one ≡ before one) old mid → Looks mid look → Leads (LosesSpares entries) look new
+      → (other : IndexView) → HasIndex records old.files other → Leads (OnlyClears other.entries) old new
   spares_failed look new touches looks cleared other has =
-      subst (λ (es : List Entry). Leads (λ before image. (one : FileId) → one ≢ Index 0 → is_spare_file one es ≡ false → image one ≡ before one) old new) (same_entries other has)
+      subst (λ (es : List Entry). Leads (OnlyClears es) old new) (same_entries other has)
       (live_cleared entries old look new (stays_after touches looks.stays) cleared)
 
   module _ (books : BooksView) (count : AreEntries entries → end_of entries < 2 ^ 63 → (history : List Push) × AreCounted mid.files entries books history) where

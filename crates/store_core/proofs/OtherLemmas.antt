@@ -1,5 +1,5 @@
 -- Files that aren't a store's own.
-use Rattle.std.proofs.Common.{◌≡◌, ◌≢◌, ℕ, Bool, true, false, List, Option, refl, sym, ◌∙◌, ap, subst}
+use Rattle.std.proofs.Common.{◌≡◌, ◌≢◌, inl, inr, ⊎_elim, ℕ, Bool, true, false, List, Option, refl, sym, ◌∙◌, ap, subst}
 use Rattle.std.proofs.lemmas.Bool.{true≢false}
 use Rattle.disk_trait.specs.declared.disk.FileId.{FileId}
 use Rattle.disk_trait.specs.declared.disk.FileId.TheVariants.{Index, LimitsFile, Object, Root}
@@ -8,8 +8,8 @@ use Rattle.disk_trait.proofs.Steps.{goes_on, stays_after, still, widen}
 use Rattle.gate_journal.specs.Journal.{SameBodies}
 use Rattle.gate_journal.specs.Slots.{bodies_of}
 use Rattle.metastore_index.specs.declared.entry.Entry.{Entry}
-use Rattle.history_files.specs.Standing.{KeepsLive, is_spare_file}
-use Rattle.store_core.specs.Changes.{LeavesAllBut, LeavesOthers, is_store_file}
+use Rattle.history_files.specs.Standing.{KeepsLive, LosesSpares, is_spare_file}
+use Rattle.store_core.specs.Changes.{LeavesAllBut, LeavesOthers, OnlyClears, is_store_file}
 
 pub others_still : (old new : DiskView) → Leads Stays old new → Leads LeavesOthers old new
 others_still old new run = widen run (λ before image left stays file other. ap (λ (f : Files). f file) stays)
@@ -61,15 +61,15 @@ untouched_again old mid new first second = goes_on first second (λ before image
 module _ (entries : List Entry) where
   -- only the index file was written, if any
   pub live_opened : (old new : DiskView) → Leads (λ before image. (one : FileId) → one ≢ Index 0 → image one ≡ before one) old new
-      → Leads (λ before image. (one : FileId) → one ≢ Index 0 → is_spare_file one entries ≡ false → image one ≡ before one) old new
-  live_opened old new run = widen run (λ before image left step one other live. step one other)
+      → Leads (OnlyClears entries) old new
+  live_opened old new run = widen run (λ before image left step one other. inl (step one other))
 
   -- and objects that aren't live were removed
-  pub live_cleared : (old mid new : DiskView) → Leads (λ before image. (one : FileId) → one ≢ Index 0 → image one ≡ before one) old mid → Leads (KeepsLive entries) mid new
-      → Leads (λ before image. (one : FileId) → one ≢ Index 0 → is_spare_file one entries ≡ false → image one ≡ before one) old new
+  pub live_cleared : (old mid new : DiskView) → Leads (λ before image. (one : FileId) → one ≢ Index 0 → image one ≡ before one) old mid → Leads (LosesSpares entries) mid new
+      → Leads (OnlyClears entries) old new
   live_cleared old mid new first second = goes_on first second
-      (λ before image left step one other live. step one other)
-      (λ before between image left one now two file other live. two file live ∙ one file other)
+      (λ before image left step one other. inl (step one other))
+      (λ before between image left one now two file other. ⊎_elim (λ same. inl (same ∙ one file other)) (λ gone. inr gone) (two file))
 
   -- the index file stays in this
   pub bodies_cleared : (synced mid look new : DiskView) → Leads (Touches (Index 0) SameBodies) synced mid → Leads Stays mid look → Leads (KeepsLive entries) look new

@@ -9,7 +9,7 @@ use Rattle.profile_model.specs.declared.push.Push.{Push}
 use Rattle.push_history.specs.History.{HasBoundedTotals}
 use Rattle.history_files.specs.History.{IsBounded, IsObjectOf, StandFor}
 use Rattle.history_files.specs.Keeps.{StandForEither, Start}
-use Rattle.history_files.specs.Standing.{LosesSpares, Turns, is_spare}
+use Rattle.history_files.specs.Standing.{LosesSpares, Turns, is_spare, is_spare_file}
 use Rattle.store_core.specs.Store.{FlightView, HasHistory, IsKeeping, Mends, StoreView, in_flight}
 
 -- a store's own files: its index file and the objects
@@ -26,6 +26,10 @@ LeavesOthers before image = (file : FileId) → is_store_file file ≡ false →
 -- no file is touched but the index file, and the object of this id
 abbrev pub LeavesAllBut : ℕ → Files → Files → Type 0
 LeavesAllBut id before image = (file : FileId) → file ≢ Index 0 → file ≢ Object id → image file ≡ before file
+
+-- no file is touched but the index file, and objects that are none of these entries', which may go
+abbrev pub OnlyClears : List Entry → Files → Files → Type 0
+OnlyClears entries before image = (file : FileId) → file ≢ Index 0 → (image file ≡ before file) ⊎ ((is_spare_file file entries ≡ true) × (image file ≡ None))
 
 -- no object is there that isn't live
 abbrev pub HasNoSpares : {D : Type 0} → DiskView → StoreView D → Type 0
@@ -61,6 +65,10 @@ FliesNext before after pushes = (after.flight ≡ None) ⊎ ((flight : FlightVie
 -- none came to it, or the flight's
 abbrev pub TakesFlight : {D : Type 0} → StoreView D → StoreView D → Type 0
 TakesFlight before after = HasSameIndex before after ⊎ ((flight : FlightView) × (before.flight ≡ Some flight) × HasOneMore before after flight.entry)
+
+-- the numbers of the pushes end there, with or without the flight's
+abbrev pub EndsWithFlight : {D : Type 0} → StoreView D → ℕ → Type 0
+EndsWithFlight store end = (end ≡ end_of store.index.entries) ⊎ (end ≡ end_of store.index.entries + length (in_flight store.flight))
 
 -- A mend, whole or not. At each moment each image stands for the history, or for that with the flight behind it; what may
 -- still turn out to be kept is nothing, or as it was. No file comes, and none goes but objects that aren't live.

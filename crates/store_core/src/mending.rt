@@ -5,7 +5,7 @@ ghost use Rattle.metastore_index.specs.Entries.{end_of};
 ghost use Rattle.profile_model.specs.declared.push.Push.{Push};
 ghost use Rattle.history_files.specs.History.{StandFor};
 ghost use Rattle.store_core.specs.Store.{HasHistory, in_flight};
-ghost use Rattle.store_core.specs.Changes.{HasNoSpares, HasSameIndex, IsMended, LeavesOthers, TakesFlight};
+ghost use Rattle.store_core.specs.Changes.{EndsWithFlight, HasNoSpares, HasSameIndex, IsMended, LeavesOthers, TakesFlight};
 
 use crate::fault::MendFault;
 use crate::parts::decide_on;
@@ -108,6 +108,7 @@ impl<D: Disk> Store<D> {
         ensures unsure { OnErr result (self.new.sure ≡ false) }
         ensures flight { OnOk result (self.new.flight ≡ None) }
         ensures lands { self.old.flight ≡ None → (self.new.flight ≡ None) × HasSameIndex self.old self.new }
+        ensures end { EndsWithFlight self.old (end_of self.new.index.entries) }
         ensures records { self.new.records ≡ self.old.records }
         ensures limits { self.new.limits ≡ self.old.limits }
         ensures nothing { self.old.sure ≡ true → (self.new ≡ self.old) × IsOk result }
@@ -135,6 +136,7 @@ impl<D: Disk> Store<D> {
         ensures unsure { OnErr result (self.new.sure ≡ false) }
         ensures flight { OnOk result (self.new.flight ≡ None) }
         ensures lands { self.old.flight ≡ None → (self.new.flight ≡ None) × HasSameIndex self.old self.new }
+        ensures end { EndsWithFlight self.old (end_of self.new.index.entries) }
         ensures records { self.new.records ≡ self.old.records }
         ensures limits { self.new.limits ≡ self.old.limits }
         ensures failed { (count : ℕ) → IsErrOf result (MendFault.Disk count) → (count ≡ (D.view self.new.disk).faults) × Rose (D.view self.old.disk).faults count }

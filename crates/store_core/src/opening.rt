@@ -11,8 +11,8 @@ ghost use Rattle.push_history.specs.History.{HasBoundedTotals};
 ghost use Rattle.tenant_books.specs.Books.{AreBooksOf};
 ghost use Rattle.history_files.specs.History.{HasIndex, IsBlamed, IsObjectOf, StandFor};
 ghost use Rattle.history_files.specs.Keeps.{Keeps, Start, start_at};
-ghost use Rattle.store_core.specs.Changes.{HasNoSpares, LeavesOthers};
-ghost use Rattle.history_files.specs.Standing.{is_spare, is_spare_file, IsSynced, SameOrStand, StandAlike};
+ghost use Rattle.store_core.specs.Changes.{HasNoSpares, LeavesOthers, OnlyClears};
+ghost use Rattle.history_files.specs.Standing.{is_spare, IsSynced, SameOrStand, StandAlike};
 ghost use Rattle.store_core.specs.Opening.{AreCounted, HasDurableIndex, IsRead, StopsAt};
 ghost use Rattle.store_core.specs.Store.{HasHistory, IsKeeping};
 
@@ -127,7 +127,8 @@ fn read_all<D: Disk>(
     ensures memory_leaves { IsErrOf result OpenCause.Memory
         → Leads (λ before image. (other : FileId) → other ≢ names.Index 0 → image other ≡ before other) (D.view disk.old) (D.view disk.new) }
     ensures disk_leaves { (index : IndexView) → (count : ℕ) → Tells (D.view disk.old) → HasIndex records (D.view disk.old).files index → IsErrOf result (OpenCause.Disk count)
-        → Leads (λ before image. (other : FileId) → other ≢ names.Index 0 → is_spare_file other index.entries ≡ false → image other ≡ before other) (D.view disk.old) (D.view disk.new) }
+        → Leads (OnlyClears index.entries) (D.view disk.old) (D.view disk.new) }
+    ensures only_clears { IfOk result (λ read. Leads (OnlyClears read.1.entries) (D.view disk.old) (D.view disk.new)) }
     ensures gone { Tells (D.view disk.old) → IfOk result (λ read. (id : ℕ) → is_spare id read.1.entries ≡ true → (D.view disk.new).files (names.Object id) ≡ None) }
     ensures failed { (count : ℕ) → IsErrOf result (OpenCause.Disk count) → (count ≡ (D.view disk.new).faults) × Rose (D.view disk.old).faults count }
     ensures memory { IsErrOf result OpenCause.Memory → (D.view disk.new).faults ≡ (D.view disk.old).faults }
@@ -180,11 +181,12 @@ impl<D: Disk> Store<D> {
         ensures damaged_leaves { (file : FileId) → IfErr result (λ refused. refused.cause ≡ OpenCause.Damaged file
             → Leads (λ before image. (other : FileId) → other ≢ names.Index 0 → image other ≡ before other) (D.view disk) (D.view refused.disk)) }
 
-        // Nor where memory is wanting. A fault of the disk leaves each file but the index file and the objects that aren't live.
+        // Nor where memory is wanting. Else objects that aren't live may go too, and no file comes.
+        ensures only_clears { IfOk result (λ store. Leads (OnlyClears store.index.entries) (D.view disk) (D.view store.disk)) }
         ensures memory_leaves { IfErr result (λ refused. refused.cause ≡ OpenCause.Memory
             → Leads (λ before image. (other : FileId) → other ≢ names.Index 0 → image other ≡ before other) (D.view disk) (D.view refused.disk)) }
         ensures disk_leaves { (index : IndexView) → (count : ℕ) → Tells (D.view disk) → HasIndex records (D.view disk).files index → IfErr result (λ refused. refused.cause ≡ OpenCause.Disk count
-            → Leads (λ before image. (other : FileId) → other ≢ names.Index 0 → is_spare_file other index.entries ≡ false → image other ≡ before other) (D.view disk) (D.view refused.disk)) }
+            → Leads (OnlyClears index.entries) (D.view disk) (D.view refused.disk)) }
         ensures failed { (count : ℕ) → IfErr result (λ refused. refused.cause ≡ OpenCause.Disk count
             → (count ≡ (D.view refused.disk).faults) × Rose (D.view disk).faults count) }
         ensures memory { IfErr result (λ refused. refused.cause ≡ OpenCause.Memory → (D.view refused.disk).faults ≡ (D.view disk).faults) }

@@ -4,6 +4,7 @@ ghost use Rattle.disk_trait.specs.Disk.{GoesOn, Looks, Rose, Tells};
 ghost use Rattle.metastore_index.specs.declared.entry.Entry as entries;
 ghost use Rattle.metastore_index.specs.Entries.{Covers, end_of};
 ghost use Rattle.profile_model.specs.declared.push.Push.{Push};
+ghost use Rattle.segment_file.specs.Objects.{ObjectView};
 ghost use Rattle.segment_file.specs.Parts.{part_of};
 ghost use Rattle.history_files.specs.Standing.{Describes};
 ghost use Rattle.store_core.specs.Store.{HasHistory};
@@ -86,6 +87,8 @@ impl<D: Disk> Store<D> {
             → IfOk result (λ part. part ≡ part_of 0 history at part.until ask.now) }
         ensures until { IfOk result (λ part. (entry : entries.Entry) × Covers self.old.index.entries at entry × (part.until ≡ min until entry.hi)) }
         ensures from { IfOk result (λ part. part.from ≡ at) }
+        ensures found { IfOk result (λ part. (entry : entries.Entry) × Covers self.old.index.entries at entry × (object : ObjectView) × Describes entry object
+            × (part ≡ part_of object.lo object.pushes at until ask.now)) }
         ensures damaged { (id : ℕ) → IsErrOf result (ReadFault.Damaged id)
             → ((entry : entries.Entry) × Covers self.old.index.entries at entry × (id ≡ entry.id)) × ¬ (Tells (D.view self.old.disk)) }
         ensures same { self.new ≡ record self.old { disk = self.new.disk } }

@@ -12,7 +12,7 @@ ghost use Rattle.segment_file.specs.Laws.{IsLight};
 ghost use Rattle.history_files.specs.Keeps.{most_pushes};
 ghost use Rattle.tenant_books.specs.Verdicts.{kept_of};
 ghost use Rattle.store_core.specs.Store.{HasHistory, HasNumbers, IsBehind, IsFull};
-ghost use Rattle.store_core.specs.Changes.{CanPut, FliesNext, HasOneMore, HasSameIndex, IsAdded, IsNextEntry, IsNotAdded, LeavesAllBut, LeavesOthers};
+ghost use Rattle.store_core.specs.Changes.{CanPut, EndsWithFlight, FliesNext, HasOneMore, HasSameIndex, IsAdded, IsNextEntry, IsNotAdded, LeavesAllBut, LeavesOthers};
 ghost use Rattle.store_core.specs.Settling.{FirstMended, IsFullFor, IsDoubted, IsSettled, MendFailed};
 
 use crate::fault::{MendFault, SettleFault};
@@ -219,9 +219,8 @@ impl<D: Disk> Store<D> {
         ensures many { IfOk result (λ settled. length settled.verdicts.items ≡ length asks.items) }
         ensures kept { IfOk result (λ settled. settled.kept.items ≡ kept_of asks.items settled.verdicts.items) }
         ensures room { self.old.sure ≡ true → IfOk result (λ settled. settled.kept.items ≢ [] → ¬ (IsFull self.old)) }
-        ensures end { self.old.flight ≡ None
-            → IfOk result (λ settled. end_of self.new.index.entries ≡ end_of self.old.index.entries + length settled.kept.items) }
-        ensures same_end { self.old.flight ≡ None → OnErr result (end_of self.new.index.entries ≡ end_of self.old.index.entries) }
+        ensures end { IfOk result (λ settled. (before : ℕ) × EndsWithFlight self.old before × (end_of self.new.index.entries ≡ before + length settled.kept.items)) }
+        ensures end_refused { OnErr result (EndsWithFlight self.old (end_of self.new.index.entries)) }
         ensures sure { OnOk result ((self.new.sure ≡ true) × (self.new.flight ≡ None)) }
         ensures full { (records : ℕ) → (back : Vec PushAsk) → IsErrOf result (SettleFault.Full records back)
             → (records ≡ self.old.records) × (back ≡ asks) × (self.new.sure ≡ true) × IsFull self.new × (self.old.sure ≡ true → self.new ≡ self.old)

@@ -84,6 +84,33 @@ one-judgement limit history (ask ∷ asks) (v ∷ verdicts) (w ∷ others) last 
     (subst (λ told. AreVerdicts limit (with_kept history ask.push told) asks others other) (sym same) so.1) in
     ((λ i. same i ∷ rest.0 i), rest.1)
 
+-- ---- a history never gets shorter by verdicts
+
+pub verdicts-grow : (limit : List ℕ → ℕ) (history : List Push) (asks : List PushAsk) (verdicts : List Verdict) (last : List Push)
+    → AreVerdicts limit history asks verdicts last → length history ≤ length last
+verdicts-grow limit history [] [] last are = let same = ap (length {A = Push}) are in omega arith
+verdicts-grow limit history [] (v ∷ verdicts) last are = absurd are
+verdicts-grow limit history (ask ∷ asks) [] last are = absurd are
+verdicts-grow limit history (ask ∷ asks) (v ∷ verdicts) last are =
+    let grown = kept-grows history ask.push v in
+    let rest = verdicts-grow limit (with_kept history ask.push v) asks verdicts last are.1 in
+    omega arith
+
+-- what the first asks lead to is no longer than what all lead to
+pub first-short : (limit : List ℕ → ℕ) (history : List Push) (asks more : List PushAsk) (verdicts others : List Verdict) (reached last : List Push)
+    → AreVerdicts limit history asks verdicts reached → AreVerdicts limit history (asks ++ more) others last → length reached ≤ length last
+first-short limit history [] more [] others reached last are so =
+    let same = ap (length {A = Push}) are in
+    let grown = verdicts-grow limit history more others last so in
+    omega arith
+first-short limit history [] more (v ∷ verdicts) others reached last are so = absurd are
+first-short limit history (ask ∷ asks) more [] others reached last are so = absurd are
+first-short limit history (ask ∷ asks) more (v ∷ verdicts) [] reached last are so = absurd so
+first-short limit history (ask ∷ asks) more (v ∷ verdicts) (w ∷ others) reached last are so =
+    let same = one-verdict limit history ask v w are.0 so.0 in
+    first-short limit (with_kept history ask.push v) asks more verdicts others reached last are.1
+    (subst (λ told. AreVerdicts limit (with_kept history ask.push told) (asks ++ more) others last) (sym same) so.1)
+
 -- ---- whether any is kept
 
 alone : (books : BooksView) (limits : LimitsView) (history : List Push) (ask : PushAsk) (verdict : Verdict) → AreBooksOf books history

@@ -40,6 +40,9 @@ pub fn judge(
     ensures bounded { IfOk result (λ judged. (history : List Push) → AreBooksOf books.now history → HasBoundedTotals history
         → length history ≡ end → end + length judged.kept.items < 2 ^ 63
         → HasBoundedTotals (history ++ judged.kept.items)) }
+    ensures one { (history : List Push) → (others : List Verdict) → (last : List Push) → AreBooksOf books.now history → HasBoundedTotals history
+        → length history ≡ end → AreVerdicts (limit_of limits.now) history asks.items others last → length last < 2 ^ 63
+        → IfOk result (λ judged. (judged.verdicts.items ≡ others) × (history ++ judged.kept.items ≡ last)) }
     ensures few { IfOk result (λ judged. length judged.kept.items ≤ length asks.items) }
     ensures kept { IfOk result (λ judged. judged.kept.items ≡ kept_of asks.items judged.verdicts.items) }
     ensures many { IfOk result (λ judged. length judged.verdicts.items ≡ length asks.items) }

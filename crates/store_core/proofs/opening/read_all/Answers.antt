@@ -1,7 +1,9 @@
-use Rattle.std.proofs.Common.{◌≡◌, ◌+◌, Err, ap, arith, ◌∙◌}
-use Rattle.disk_trait.specs.Disk.{GoesOn, Tells}
+use Rattle.std.proofs.Common.{◌≡◌, ◌+◌, List, Err, ap, arith, ◌∙◌, subst}
+use Rattle.disk_trait.specs.Disk.{GoesOn, Leads, Tells}
+use Rattle.metastore_index.specs.declared.entry.Entry.{Entry}
+use Rattle.store_core.specs.Changes.{OnlyClears}
 use Rattle.disk_trait.proofs.Steps.{stays_after, widen}
-use Rattle.store_core.proofs.OtherLemmas.{bodies_cleared, live_opened, others_again, others_cleared, others_opened}
+use Rattle.store_core.proofs.OtherLemmas.{bodies_cleared, live_cleared, live_opened, others_again, others_cleared, others_opened}
 use Rattle.store_core.proofs.OpenLemmas.{cause_is, cleared_after, cleared_alike, cleared_on, cleared_stand, entries_are, entries_short, ids_next, is_read, not_nothing, prepared_durable, spares_failed, stops_blamed}
 use Rattle.store_core.proofs.opening.read_all.Goals as goal
 
@@ -124,7 +126,15 @@ returns-clause-disk_leaves g c index count t has asked =
     let look = g.D.Disk.view c.count_objects.new.disk in
     let new = g.D.Disk.view c.remove_spares.new.disk in
     spares_failed c.args.records old mid c.in-Ok.pair.0 c.in-Ok.pair.1 (c.in-Ok.ensures.prepared t) _ c.entries-2.ensures.entries
-    look new c.open_index.ensures.touches c.count_objects.ensures.looks c.remove_spares.ensures.others index has
+    look new c.open_index.ensures.touches c.count_objects.ensures.looks c.remove_spares.ensures.loses index has
+
+pub returns-in-Ok-remove_spares-clause-only_clears : goal.returns-in-Ok-remove_spares-clause-only_clears
+returns-in-Ok-remove_spares-clause-only_clears g c =
+    let old = g.D.Disk.view c.args.disk.now in
+    let look = g.D.Disk.view c.count_objects.new.disk in
+    let new = g.D.Disk.view c.remove_spares.new.disk in
+    subst (λ (es : List Entry). Leads (OnlyClears es) old new) c.entries-2.ensures.entries
+    (live_cleared c.entries-2.result.now old look new (stays_after c.open_index.ensures.touches c.count_objects.ensures.looks.stays) c.remove_spares.ensures.loses)
 
 pub returns-in-Err-Disk-clause-disk_leaves : goal.returns-in-Err-Disk-clause-disk_leaves
 returns-in-Err-Disk-clause-disk_leaves g c index count t has asked = live_opened index.entries _ _ c.open_index.ensures.touches

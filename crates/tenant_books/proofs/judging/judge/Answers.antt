@@ -1,5 +1,7 @@
 use Rattle.std.proofs.Common.{◌≡◌, ◌+◌, ◌<◌, ◌++◌, ◌∷◌, [], List, true, length, arith, sym, ap, ◌∙◌, subst}
-use Rattle.std.proofs.lemmas.List.{length_push}
+use Rattle.std.proofs.lemmas.Iterator.Adapters.{YieldsList-from_vec}
+use Rattle.std.proofs.lemmas.Iterator.Consumers.{YieldsList-end}
+use Rattle.std.proofs.lemmas.List.{append-nil, append_assoc, length-append, length_push, map-id}
 use Rattle.profile_model.specs.declared.push.Push.{Push}
 use Rattle.profile_model.specs.Limits.{total_bound}
 use Rattle.profile_model.specs.Pushes.{profiles_total}
@@ -8,7 +10,7 @@ use Rattle.tenant_books.specs.Keeping.{is_kept, is_kept_alone}
 use Rattle.tenant_books.specs.Limits.{limit_of}
 use Rattle.tenant_books.specs.Verdicts.{AreVerdicts, IsVerdict, kept_of, with_kept}
 use Rattle.tenant_books.proofs.KeptLemmas.{kept_more, kept_still, none_more}
-use Rattle.tenant_books.proofs.VerdictLemmas.{kept-behind, kept-bounded, kept-few, kept-grows, verdict-bounded, verdicts-more}
+use Rattle.tenant_books.proofs.VerdictLemmas.{first-short, kept-behind, kept-bounded, kept-few, kept-grows, one-judgement, verdict-bounded, verdicts-grow, verdicts-more}
 use Rattle.tenant_books.proofs.judging.judge.Goals as goal
 
 pub loop-ask-preserved : goal.loop-ask-preserved
@@ -53,4 +55,25 @@ loop-ask-preserved c =
           let is = subst (λ (pushes : List Push). IsVerdict limit (history ++ pushes) ask verdict) c.deref.ensures.value (c.verdict_after-verdict.ensures.verdict history are bounded end (omega arith)) in
           subst HasBoundedTotals (sym (ap (λ more. history ++ more) c.in_ok-keep.ensures ∙ kept-behind history kept ask.push verdict))
           (verdict-bounded limit (history ++ kept) ask verdict (c.loop-ask.invariant.bounded history are bounded end (omega arith)) c.verdict_after-verdict.ensures.limit is);
+      short = λ history last more others are bounded end ends told low.
+          let before = c.loop-ask.invariant.short history last (ask ∷ more) others are bounded end ends
+              (subst (λ all. AreVerdicts limit history all others last) (append_assoc c.loop-ask.yielded (ask ∷ []) more) told) low in
+          let is = subst (λ (pushes : List Push). IsVerdict limit (history ++ pushes) ask verdict) c.deref.ensures.value (c.verdict_after-verdict.ensures.verdict history are bounded end (omega arith)) in
+          let reached = verdicts-more limit history c.loop-ask.yielded c.loop-ask.verdicts.items (history ++ kept) ask verdict (c.loop-ask.invariant.verdicts history are bounded end before) is in
+          let least = first-short limit history (c.loop-ask.yielded ++ ask ∷ []) more (c.loop-ask.verdicts.items ++ verdict ∷ []) others (with_kept (history ++ kept) ask.push verdict) last reached told in
+          let same = ap (length {A = Push}) (kept-behind history kept ask.push verdict) in
+          let long = length-append history (with_kept kept ask.push verdict) in
+          omega arith;
     }
+
+pub returns-clause-one : goal.returns-clause-one
+returns-clause-one c = λ history others last are bounded end told low.
+    let limit = limit_of c.args.limits.now in
+    let it = c.into_iter-ask-iterator.result in
+    let gives = c.into_iter-ask-iterator.ensures.into_iter_gives in
+    let whole = sym (map-id c.loop-ask.yielded) ∙ (YieldsList-end (YieldsList-from_vec c.args.asks.items gives.0 (gives.1 ∙ c.args.asks.ok.0)) c.loop-ask.yielded c.loop-ask.ask-iterator c.loop-ask.yielded_by c.next.result c.next.new.self c.in-None.is c.next.ensures.steps).0 in
+    let grown = verdicts-grow limit history c.args.asks.items others last told in
+    let short = c.loop-ask.invariant.short history last [] others are bounded end (omega arith)
+        (subst (λ asks. AreVerdicts limit history asks others last) (sym (append-nil c.loop-ask.yielded ∙ whole)) told) low in
+    one-judgement limit history c.args.asks.items c.loop-ask.verdicts.items others (history ++ c.loop-ask.kept.items) last
+    (subst (λ asks. AreVerdicts limit history asks c.loop-ask.verdicts.items (history ++ c.loop-ask.kept.items)) whole (c.loop-ask.invariant.verdicts history are bounded end short)) told

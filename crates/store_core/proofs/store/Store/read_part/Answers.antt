@@ -12,3 +12,6 @@ returns-in-Ok-into_part-clause-until g c = (
   c.in-Ok.ensures.covers,
   part_until c.args.ask.now c.in-Ok.field-0-0 c.in-Ok.object c.args.at c.args.until c.in-Ok-into_part.part c.in-Ok.ensures.described c.in-Ok-into_part.ensures,
 )
+
+pub returns-in-Ok-into_part-clause-found : goal.returns-in-Ok-into_part-clause-found
+returns-in-Ok-into_part-clause-found g c = (c.in-Ok.field-0-0, c.in-Ok.ensures.covers, c.in-Ok.object, c.in-Ok.ensures.described, c.in-Ok-into_part.ensures)

@@ -1,9 +1,10 @@
-use Rattle.std.proofs.Common.{◌≡◌, ◌∙◌, ap, refl, sym, subst}
+use Rattle.std.proofs.Common.{◌≡◌, ◌∙◌, ap, refl, sym, subst, inl}
+use Rattle.metastore_index.specs.Entries.{end_of}
 use Rattle.history_files.specs.History.{StandFor}
-use Rattle.store_core.specs.Changes.{HasSameIndex}
+use Rattle.store_core.specs.Changes.{EndsWithFlight, HasSameIndex}
 use Rattle.store_core.proofs.SettleLemmas.{on_ok_any}
 use Rattle.store_core.proofs.StoreLemmas.{mended_again}
-use Rattle.store_core.proofs.IndexLemmas.{takes_same}
+use Rattle.store_core.proofs.IndexLemmas.{ends_with, takes_same}
 use Rattle.store_core.proofs.OtherLemmas.{others_again}
 use Rattle.store_core.proofs.store.Store.reap.Goals as goal
 
@@ -28,6 +29,14 @@ returns-clause-lands g c none =
 
 pub returns-in-Err-clause-lands : goal.returns-in-Err-clause-lands
 returns-in-Err-clause-lands g c none = (c.in-Err.ensures.same.1 ∙ none, c.in-Err.ensures.same.0)
+
+pub returns-clause-end : goal.returns-clause-end
+returns-clause-end g c =
+    subst (EndsWithFlight c.args.self.now) (sym (ap end_of c.clear.ensures.index.entries))
+    (ends_with c.args.self.now c.in-Ok.field-0.items (end_of c.decide.new.self.index.entries) c.in-Ok.ensures.came c.in-Ok.ensures.end)
+
+pub returns-in-Err-clause-end : goal.returns-in-Err-clause-end
+returns-in-Err-clause-end g c = inl (ap end_of c.in-Err.ensures.same.0.entries)
 
 pub returns-clause-others : goal.returns-clause-others
 returns-clause-others g c =

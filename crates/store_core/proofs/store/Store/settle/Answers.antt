@@ -1,8 +1,7 @@
-use Rattle.std.proofs.Common.{◌≡◌, ◌+◌, List, length, ap, sym, ◌∙◌, inl, inr, subst}
-use Rattle.metastore_index.specs.declared.entry.Entry.{Entry}
+use Rattle.std.proofs.Common.{◌≡◌, ◌+◌, ℕ, List, length, ap, sym, ◌∙◌, inl, inr, subst}
 use Rattle.metastore_index.specs.Entries.{end_of}
 use Rattle.store_core.specs.Store.{IsFull}
-use Rattle.store_core.specs.Changes.{HasSameIndex}
+use Rattle.store_core.specs.Changes.{EndsWithFlight, HasSameIndex}
 use Rattle.store_core.specs.Settling.{FirstMended, IsDoubted, IsFullFor, IsSettled}
 use Rattle.store_core.proofs.SettleLemmas.{first_mended, if_ok, on_err_weaker, with_spare}
 use Rattle.store_core.proofs.OtherLemmas.{others_again}
@@ -62,20 +61,14 @@ returns-clause-doubted g c count is history t held =
     inl (record { was_unsure = c.in-Err-Disk.ensures.was_unsure; is_unsure = c.in-Err-Disk.ensures.unsure; next = d.0; mended = d.1; index = c.mend.ensures.index t })
 
 pub returns-in-Ok-clause-end : goal.returns-in-Ok-clause-end
-returns-in-Ok-clause-end g c none =
+returns-in-Ok-clause-end g c =
     if_ok c.settle_sure.result
     (λ settled. end_of c.settle_sure.new.self.index.entries ≡ end_of c.mend.new.self.index.entries + length settled.kept.items)
-    (λ settled. end_of c.settle_sure.new.self.index.entries ≡ end_of c.args.self.now.index.entries + length settled.kept.items)
-    (λ settled is. is ∙ ap (λ (es : List Entry). end_of es + length settled.kept.items) (c.mend.ensures.lands none).1.entries)
+    (λ settled. (before : ℕ) × EndsWithFlight c.args.self.now before × (end_of c.settle_sure.new.self.index.entries ≡ before + length settled.kept.items))
+    (λ settled is. (end_of c.mend.new.self.index.entries, c.mend.ensures.end, is))
     c.settle_sure.ensures.end
 
-pub returns-in-Ok-clause-same_end : goal.returns-in-Ok-clause-same_end
-returns-in-Ok-clause-same_end g c none =
-    on_err_weaker c.settle_sure.result (HasSameIndex c.mend.new.self c.settle_sure.new.self) (end_of c.settle_sure.new.self.index.entries ≡ end_of c.args.self.now.index.entries)
-    (λ same. ap end_of (same.entries ∙ (c.mend.ensures.lands none).1.entries)) c.settle_sure.ensures.same
-
-pub returns-in-Err-Memory-clause-same_end : goal.returns-in-Err-Memory-clause-same_end
-returns-in-Err-Memory-clause-same_end g c none = ap end_of (c.mend.ensures.lands none).1.entries
-
-pub returns-clause-same_end : goal.returns-clause-same_end
-returns-clause-same_end g c none = ap end_of (c.mend.ensures.lands none).1.entries
+pub returns-in-Ok-clause-end_refused : goal.returns-in-Ok-clause-end_refused
+returns-in-Ok-clause-end_refused g c =
+    on_err_weaker c.settle_sure.result (HasSameIndex c.mend.new.self c.settle_sure.new.self) (EndsWithFlight c.args.self.now (end_of c.settle_sure.new.self.index.entries))
+    (λ same. subst (EndsWithFlight c.args.self.now) (sym (ap end_of same.entries)) c.mend.ensures.end) c.settle_sure.ensures.same

@@ -57,7 +57,7 @@ loop-ask-preserved c =
           (verdict-bounded limit (history ++ kept) ask verdict (c.loop-ask.invariant.bounded history are bounded end (omega arith)) c.verdict_after-verdict.ensures.limit is);
       short = λ history last more others are bounded end ends told low.
           let before = c.loop-ask.invariant.short history last (ask ∷ more) others are bounded end ends
-              (subst (λ all. AreVerdicts limit history all others last) (append_assoc c.loop-ask.yielded (ask ∷ []) more) told) low in
+          (subst (λ all. AreVerdicts limit history all others last) (append_assoc c.loop-ask.yielded (ask ∷ []) more) told) low in
           let is = subst (λ (pushes : List Push). IsVerdict limit (history ++ pushes) ask verdict) c.deref.ensures.value (c.verdict_after-verdict.ensures.verdict history are bounded end (omega arith)) in
           let reached = verdicts-more limit history c.loop-ask.yielded c.loop-ask.verdicts.items (history ++ kept) ask verdict (c.loop-ask.invariant.verdicts history are bounded end before) is in
           let least = first-short limit history (c.loop-ask.yielded ++ ask ∷ []) more (c.loop-ask.verdicts.items ++ verdict ∷ []) others (with_kept (history ++ kept) ask.push verdict) last reached told in
@@ -74,6 +74,6 @@ returns-clause-one c = λ history others last are bounded end told low.
     let whole = sym (map-id c.loop-ask.yielded) ∙ (YieldsList-end (YieldsList-from_vec c.args.asks.items gives.0 (gives.1 ∙ c.args.asks.ok.0)) c.loop-ask.yielded c.loop-ask.ask-iterator c.loop-ask.yielded_by c.next.result c.next.new.self c.in-None.is c.next.ensures.steps).0 in
     let grown = verdicts-grow limit history c.args.asks.items others last told in
     let short = c.loop-ask.invariant.short history last [] others are bounded end (omega arith)
-        (subst (λ asks. AreVerdicts limit history asks others last) (sym (append-nil c.loop-ask.yielded ∙ whole)) told) low in
+    (subst (λ asks. AreVerdicts limit history asks others last) (sym (append-nil c.loop-ask.yielded ∙ whole)) told) low in
     one-judgement limit history c.args.asks.items c.loop-ask.verdicts.items others (history ++ c.loop-ask.kept.items) last
     (subst (λ asks. AreVerdicts limit history asks c.loop-ask.verdicts.items (history ++ c.loop-ask.kept.items)) whole (c.loop-ask.invariant.verdicts history are bounded end short)) told

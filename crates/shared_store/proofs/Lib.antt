@@ -1,3 +1,0 @@
-pub mod CursorLemmas
-pub mod TieLemmas
-pub mod ReadingLemmas

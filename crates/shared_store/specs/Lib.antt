@@ -1,4 +1,0 @@
--- a store with its spine, and what is read of it along a pass
-pub mod Holds
-pub mod Cursors
-pub mod Readings

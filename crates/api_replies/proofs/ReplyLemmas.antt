@@ -1,21 +1,21 @@
 -- What a reply says of the history that it is over.
 use Rattle.std.proofs.Common.{◌≡◌, ◌≢◌, ◌∙◌, ℕ, Bool, true, false, cond, List, [], ◌∷◌, refl, sym, ap, inl, inr}
-use Rattle.std.specs.Prelude.{filter, Option, Some, None}
+use Rattle.std.specs.Prelude.{filter, nat_le, Option, Some, None, if◌then◌else◌}
 use Rattle.http_session.specs.Asked.{Asked}
 use Rattle.http_session.specs.declared.reply.Reply.{Reply}
 use Rattle.http_session.specs.declared.reply.Status.TheVariants.{Ok}
 use Rattle.push_history.specs.History.{front_of, pushes_of}
 use Rattle.profile_model.specs.declared.push.Push.{Push}
 use Rattle.request_meaning.specs.Facts.{Facts}
-use Rattle.request_meaning.specs.Forms.{route_of, tenant_of}
+use Rattle.request_meaning.specs.Forms.{least_front, route_of, tenant_of}
 use Rattle.routes.specs.declared.route.Route.{Route}
 use Rattle.routes.specs.declared.route.Route.TheVariants as route
 use Rattle.request_meaning.specs.declared.ask.LabelQuery.{LabelQuery}
 use Rattle.request_meaning.specs.declared.ask.LabelQuery.TheVariants as label
-use Rattle.request_meaning.specs.Meanings.{IsAsk, IsWrite, Reaches}
+use Rattle.request_meaning.specs.Meanings.{IsAsk, IsWrite, Reaches, part_of}
 use Rattle.request_meaning.specs.LabelAsks.{method_of}
 use Rattle.api_replies.specs.Refusals.{reply_for_refusal}
-use Rattle.api_replies.specs.Replies.{IsExcused, IsReply, answer_to}
+use Rattle.api_replies.specs.Replies.{IsExcused, IsReply, answer_to, reply_for_ahead, reply_to}
 use Rattle.request_meaning.specs.declared.ask.Ask.{Ask}
 use Rattle.request_meaning.specs.declared.ask.Ask.TheVariants.{Render, Labels}
 use Rattle.request_meaning.specs.declared.form.PushForm.{PushForm}
@@ -41,8 +41,7 @@ own_again history tenant = filter-again _ history
 -- ---- who asks and who writes
 
 abbrev pub asker : Ask → List ℕ
-asker (Render what) = what.part.tenant
-asker (Labels what) = what.part.tenant
+asker what = (part_of what).tenant
 
 pub asker_is_named : (facts : Facts) (asked : Asked) (what : Ask) → IsAsk facts asked what → tenant_of facts asked ≡ Some (asker what)
 asker_is_named facts asked (Render what) asks = asks.0.named
@@ -79,16 +78,24 @@ asks_no_write facts asked (Labels what) written.Json push asks write = other_rou
 
 -- ---- queries
 
--- an answer to a query is over the pushes of its tenant alone
-pub answer_alike : (history other : List Push) (what : Ask) (now : ℕ) (close : Bool) → pushes_of history (asker what) ≡ pushes_of other (asker what)
-    → answer_to history what now close ≡ answer_to other what now close
-answer_alike history other (Render what) now close same = rw same refl
-answer_alike history other (Labels what) now close same = rw same refl
-
--- and shows its front
+-- an answer to a query shows its tenant's front
 answer_shows : (history : List Push) (what : Ask) (now : ℕ) (close : Bool) → (answer_to history what now close).front ≡ Some (front_of history (asker what))
 answer_shows history (Render what) now close = refl
 answer_shows history (Labels what) now close = refl
+
+-- the reply to one is over the pushes of its tenant alone, and shows its front too
+reply_to_alike : (history other : List Push) (what : Ask) (least now : ℕ) (close : Bool) → pushes_of history (asker what) ≡ pushes_of other (asker what)
+    → reply_to history what least now close ≡ reply_to other what least now close
+reply_to_alike history other (Render what) least now close same = rw same refl
+reply_to_alike history other (Labels what) least now close same = rw same refl
+
+reply_shows : (history : List Push) (what : Ask) (least now : ℕ) (close : Bool) → (reply_to history what least now close).front ≡ Some (front_of history (asker what))
+reply_shows history what least now close = by (nat_le least (front_of history (asker what)))
+  where
+    by : (enough : Bool)
+        → (if enough then answer_to history what now close else reply_for_ahead least (front_of history (asker what)) now close).front ≡ Some (front_of history (asker what))
+    by true = answer_shows history what now close
+    by false = refl
 
 -- a reply is over the pushes of the request's tenant alone
 pub reply_alike : (facts : Facts) (asked : Asked) (history other : List Push) (reply : Reply)
@@ -96,7 +103,7 @@ pub reply_alike : (facts : Facts) (asked : Asked) (history other : List Push) (r
     → IsReply facts asked history reply → IsReply facts asked other reply
 reply_alike facts asked history other reply same (inl refused) = inl refused
 reply_alike facts asked history other reply same (inr (what, asks, is)) =
-    inr (what, asks, is ∙ answer_alike history other what asked.moment asked.close (same (asker what) (asker_is_named facts asked what asks)))
+    inr (what, asks, is ∙ reply_to_alike history other what (least_front asked) asked.moment asked.close (same (asker what) (asker_is_named facts asked what asks)))
 
 -- ---- refusals
 
@@ -125,7 +132,7 @@ shows_its_front facts asked history reply front (inl (wrong, refused, is)) shown
 shows_its_front facts asked history reply front (inr (what, asks, is)) shown = (
   asker what,
   asker_is_named facts asked what asks,
-  one_front front (front_of history (asker what)) (sym shown ∙ ap (λ (r : Reply). r.front) is ∙ answer_shows history what asked.moment asked.close),
+  one_front front (front_of history (asker what)) (sym shown ∙ ap (λ (r : Reply). r.front) is ∙ reply_shows history what (least_front asked) asked.moment asked.close),
 )
   where
     one_front : (m n : ℕ) → ◌≡◌ {A = Option ℕ} (Some m) (Some n) → m ≡ n

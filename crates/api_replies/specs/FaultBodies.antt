@@ -15,6 +15,10 @@ abbrev pub placed_body : List ℕ → List ℕ → List ℕ
 placed_body code place =
     codes "{\"fault\":\"" ++ code ++ codes "\",\"place\":[" ++ place_text place ++ codes "]}"
 
+-- {"asked":ASKED,"fault":"front","front":FRONT}
+abbrev pub ahead_body : ℕ → ℕ → List ℕ
+ahead_body asked front = codes "{\"asked\":" ++ decimal asked ++ codes ",\"fault\":\"front\",\"front\":" ++ decimal front ++ codes "}"
+
 -- {"asked":PUSH,"fault":"limit","kept":KEPT,"limit":LIMIT}
 abbrev pub limit_body : ℕ → ℕ → ℕ → List ℕ
 limit_body push kept limit =

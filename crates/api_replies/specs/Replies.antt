@@ -1,5 +1,5 @@
 -- The replies, down to their bodies.
-use Rattle.std.specs.Prelude.{◌≡◌, ◌⊎◌, ◌&&◌, ℕ, Bool, List, [], filter, nat_eq, codes, Some, None}
+use Rattle.std.specs.Prelude.{◌≡◌, ◌⊎◌, ◌&&◌, ℕ, Bool, List, [], filter, nat_eq, nat_le, codes, Some, None, if◌then◌else◌}
 use Rattle.std.specs.Cmp.Lexicographic.{pointwise}
 use Rattle.http_session.specs.Asked.{Asked}
 use Rattle.http_session.specs.declared.reply.Reply.{Reply}
@@ -17,9 +17,10 @@ use Rattle.profile_model.specs.declared.profile.Profile.{Profile}
 use Rattle.profile_model.specs.declared.push.Push.{Push}
 use Rattle.selector.specs.Matching.{matches}
 use Rattle.serde_json.specs.Written.{compact_text}
-use Rattle.api_replies.specs.FaultBodies.{limit_body}
+use Rattle.api_replies.specs.FaultBodies.{ahead_body, limit_body}
 use Rattle.request_meaning.specs.Facts.{Facts}
-use Rattle.request_meaning.specs.Meanings.{IsAsk, IsRefused, IsWrite, TakesMemory}
+use Rattle.request_meaning.specs.Forms.{least_front}
+use Rattle.request_meaning.specs.Meanings.{IsAsk, IsRefused, IsWrite, TakesMemory, part_of}
 use Rattle.api_replies.specs.Refusals.{reply_for_memory, reply_for_refusal}
 use Rattle.api_replies.specs.declared.answered.Answered.{Answered}
 use Rattle.api_replies.specs.declared.answered.Answered.TheVariants as answered
@@ -31,6 +32,8 @@ use Rattle.request_meaning.specs.declared.ask.LabelQuery.TheVariants.{Names, Val
 use Rattle.request_meaning.specs.declared.ask.RenderAsk.{RenderAsk}
 use Rattle.request_meaning.specs.declared.form.PushForm.{PushForm}
 use Rattle.request_meaning.specs.declared.form.PushForm.TheVariants as written
+use Rattle.request_meaning.specs.declared.meaning.Meaning.TheVariants.{Query, Write}
+use Rattle.request_meaning.specs.declared.meaning.Meant.{Meant}
 use Rattle.request_meaning.specs.declared.refusal.Refusal.{Refusal}
 use Rattle.api_replies.specs.declared.verdict.Verdict.{Verdict}
 use Rattle.api_replies.specs.declared.verdict.Verdict.TheVariants as verdict
@@ -38,6 +41,11 @@ use Rattle.api_replies.specs.declared.verdict.Verdict.TheVariants as verdict
 -- an answer of this kind of text, and the front that it counts
 abbrev pub answering : Text → List ℕ → ℕ → ℕ → Bool → Reply
 answering text body front now close = record { status = status.Ok; text = text; body = body; allow = None; front = Some front; now = now; close = close }
+
+-- a request that asks for more pushes of its tenant than there are
+abbrev pub reply_for_ahead : ℕ → ℕ → ℕ → Bool → Reply
+reply_for_ahead least front now close =
+    record { status = status.Conflict; text = Json; body = ahead_body least front; allow = None; front = Some front; now = now; close = close }
 
 -- ---- writes
 
@@ -57,6 +65,7 @@ abbrev pub reply_for_verdict : Verdict → PushForm → ℕ → Bool → Reply
 reply_for_verdict (verdict.Kept front) form now close = reply_for_kept form front now close
 reply_for_verdict (verdict.OverLimit kept push limit front) form now close =
     record { status = status.UnprocessableContent; text = Json; body = limit_body push kept limit; allow = None; front = Some front; now = now; close = close }
+reply_for_verdict (verdict.FrontAhead least front) form now close = reply_for_ahead least front now close
 reply_for_verdict verdict.Memory form now close = reply_for_memory now close
 
 -- ---- renders
@@ -97,18 +106,34 @@ abbrev pub answer_to : List Push → Ask → ℕ → Bool → Reply
 answer_to history (ask.Render what) = answering Plain (rendered history what) (front_of history what.part.tenant)
 answer_to history (ask.Labels what) = answering Json (listed what.query (asked_sets history what)) (front_of history what.part.tenant)
 
--- The reply to a request over a history, at its own moment, by definition: of its refusal, or the answer to a query.
+-- the answer, where the tenant has as many pushes as were asked for
+abbrev pub reply_to : List Push → Ask → ℕ → ℕ → Bool → Reply
+reply_to history what least now close =
+    let front = front_of history (part_of what).tenant in
+    if nat_le least front then answer_to history what now close else reply_for_ahead least front now close
+
+-- The reply to a request over a history, at its own moment, by definition: of its refusal, or the reply to a query.
 abbrev pub IsReply : Facts → Asked → List Push → Reply → Type 0
 IsReply facts asked history reply =
     ((refusal : Refusal) × IsRefused facts asked refusal × (reply ≡ reply_for_refusal refusal asked.moment asked.close))
-    ⊎ ((what : Ask) × IsAsk facts asked what × (reply ≡ answer_to history what asked.moment asked.close))
+    ⊎ ((what : Ask) × IsAsk facts asked what × (reply ≡ reply_to history what (least_front asked) asked.moment asked.close))
+
+-- the reply to a query, or that memory ran out
+abbrev pub IsRepliedTo : List Push → Asked → Ask → ℕ → Reply → Type 0
+IsRepliedTo history asked what least reply =
+    (reply ≡ reply_to history what least asked.moment asked.close) ⊎ (reply ≡ reply_for_memory asked.moment asked.close)
+
+-- what comes of a request that means this
+abbrev pub IsAnsweredAs : List Push → Asked → Meant → Answered → Type 0
+IsAnsweredAs history asked meant (answered.Reply reply) = (what : Ask) × (meant.what ≡ Query what) × IsRepliedTo history asked what meant.least_front reply
+IsAnsweredAs history asked meant (answered.Push form ask) = (meant.what ≡ Write form ask.push) × (ask.asked ≡ meant.least_front)
 
 -- What else may come in place of the reply by definition, and keeps nothing: that memory ran out, once memory is
 -- taken for the request.
 abbrev pub IsExcused : Facts → Asked → Reply → Type 0
 IsExcused facts asked reply = TakesMemory facts asked × (reply ≡ reply_for_memory asked.moment asked.close)
 
--- what is answered: the reply, or what else may come; or the write that the request is
+-- what is answered: the reply, or what else may come; or the write that the request is, with how many pushes its tenant must have
 abbrev pub IsAnswered : Facts → Asked → List Push → Answered → Type 0
 IsAnswered facts asked history (answered.Reply reply) = IsReply facts asked history reply ⊎ IsExcused facts asked reply
-IsAnswered facts asked history (answered.Push form push) = IsWrite facts asked form push
+IsAnswered facts asked history (answered.Push form ask) = IsWrite facts asked form ask.push × (ask.asked ≡ least_front asked)

@@ -1,26 +1,26 @@
 // The reply to a request over a history, or the write that it asks for.
-ghost use Rattle.std.specs.Prelude.{◌≡◌, ◌⊎◌};
+ghost use Rattle.std.specs.Prelude.{◌≡◌};
 ghost use Rattle.push_history.specs.History.{HasBoundedTotals};
 ghost use Rattle.request_meaning.specs.Facts.{facts_of};
-ghost use Rattle.api_replies.specs.Refusals.{reply_for_memory};
-ghost use Rattle.api_replies.specs.Replies.{IsAnswered, answer_to, answering};
+ghost use Rattle.api_replies.specs.Replies.{IsAnswered, IsAnsweredAs, IsRepliedTo, answering};
 
 use crate::labels::listed_text;
-use crate::refusal::{memory_reply, refusal_reply};
+use crate::refusal::{ahead_reply, memory_reply, refusal_reply};
 use crate::render::folded_text;
 use faults::Refused;
 use http_session::{Body, Reply, Request, Status, Text};
 use profile_model::Push;
 use push_history::front;
-use request_meaning::{Ask, Config, Meaning, PushForm, meaning_of};
+use request_meaning::{Ask, Config, Meaning, Meant, PushForm, meaning_of};
 use std::alloc::Global;
+use tenant_books::PushAsk;
 
 /// What is to be done with a request.
 #[derive(Drop)]
 pub enum Answered {
     Reply(Reply),
     /// A write request that was read without fault.
-    Push(PushForm, Push),
+    Push(PushForm, PushAsk),
 }
 
 /// The reply to a request over the pushes that were accepted before it, or its push.
@@ -29,8 +29,7 @@ pub fn answer(alloc: Global, request: &Request, history: &[Push], config: &Confi
     ensures answer { IsAnswered (facts_of config.now) request.now history.now result }
 {
     match meaning_of(alloc, request, config) {
-        Ok(Meaning::Write(form, push)) => Answered::Push(form, push),
-        Ok(Meaning::Query(ask)) => Answered::Reply(answer_query(alloc, request, history, ask)),
+        Ok(meant) => answer_meant(alloc, request, history, meant),
         Err(Refused::Fault(refusal)) => {
             Answered::Reply(refusal_reply(refusal, request.moment(), request.close()))
         }
@@ -38,27 +37,47 @@ pub fn answer(alloc: Global, request: &Request, history: &[Push], config: &Confi
     }
 }
 
-fn answer_query(alloc: Global, request: &Request, history: &[Push], ask: Ask) -> Reply
+fn answer_meant(alloc: Global, request: &Request, history: &[Push], meant: Meant) -> Answered
     requires { HasBoundedTotals history.now }
-    ensures { (result ≡ answer_to history.now ask request.now.moment request.now.close)
-        ⊎ (result ≡ reply_for_memory request.now.moment request.now.close) }
+    ensures { IsAnsweredAs history.now request.now meant result }
+{
+    let Meant { what, least_front } = meant;
+    match what {
+        Meaning::Write(form, push) => {
+            let asked = least_front;
+            Answered::Push(form, PushAsk { push, asked })
+        }
+        Meaning::Query(ask) => {
+            Answered::Reply(answer_query(alloc, request, history, ask, least_front))
+        }
+    }
+}
+
+// The answer to a query, where its tenant has as many pushes as it asks for.
+fn answer_query(
+    alloc: Global,
+    request: &Request,
+    history: &[Push],
+    ask: Ask,
+    least_front: u64,
+) -> Reply
+    requires { HasBoundedTotals history.now }
+    ensures { IsRepliedTo history.now request.now ask least_front result }
 {
     let (now, close) = (request.moment(), request.close());
+    let front = front(history, &ask.part().tenant);
+    if front < least_front {
+        return ahead_reply(least_front, front, now, close);
+    }
     match ask {
         Ask::Render(mut ask) => match folded_text(alloc, history, &mut ask) {
-            Ok(text) => {
-                let front = front(history, &ask.part.tenant);
-                answering(Text::Plain, Body::from_vec(text), front, now, close)
-            }
+            Ok(text) => answering(Text::Plain, Body::from_vec(text), front, now, close),
             Err(_) => memory_reply(now, close),
         },
-        Ask::Labels(ask) => {
-            let front = front(history, &ask.part.tenant);
-            match listed_text(alloc, history, ask) {
-                Ok(text) => answering(Text::Json, Body::from_vec(text), front, now, close),
-                Err(_) => memory_reply(now, close),
-            }
-        }
+        Ask::Labels(ask) => match listed_text(alloc, history, ask) {
+            Ok(text) => answering(Text::Json, Body::from_vec(text), front, now, close),
+            Err(_) => memory_reply(now, close),
+        },
     }
 }
 

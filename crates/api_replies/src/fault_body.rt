@@ -1,6 +1,6 @@
 // The bodies of refusals: compact JSON, keys ascending. They take no memory.
 ghost use Rattle.std.specs.Prelude.{◌≡◌, ◌+◌, ◌*◌, ◌≤◌, ◌++◌, length, decimal};
-ghost use Rattle.api_replies.specs.FaultBodies.{limit_body, named_body, placed_body, place_text};
+ghost use Rattle.api_replies.specs.FaultBodies.{ahead_body, limit_body, named_body, placed_body, place_text};
 
 use arrayvec::ArrayString;
 use http_session::Body;
@@ -67,6 +67,19 @@ fn append_number(text: &mut ArrayString<ROOM>, number: u64)
     ensures room { length text.new.bytes ≤ length text.old.bytes + 20 }
 {
     append(text, Buffer::new().format(number));
+}
+
+/// `{"asked":ASKED,"fault":"front","front":FRONT}`
+pub(crate) fn front_ahead(asked: u64, front: u64) -> Body
+    ensures { result ≡ ahead_body asked front }
+{
+    let mut text = ArrayString::<ROOM>::new();
+    append(&mut text, "{\"asked\":");
+    append_number(&mut text, asked);
+    append(&mut text, ",\"fault\":\"front\",\"front\":");
+    append_number(&mut text, front);
+    append(&mut text, "}");
+    Body::kept(text.as_str().as_bytes())
 }
 
 /// `{"asked":PUSH,"fault":"limit","kept":KEPT,"limit":LIMIT}`

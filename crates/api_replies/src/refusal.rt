@@ -1,9 +1,10 @@
 // The replies of refusals. No reply here takes memory.
 ghost use Rattle.std.specs.Prelude.{◌≡◌, ◌≤◌, length, option_map};
 ghost use Rattle.faults.specs.Places.{numbers_of};
+ghost use Rattle.api_replies.specs.Replies.{reply_for_ahead};
 ghost use Rattle.api_replies.specs.Refusals.{allow_of, body_of, folded_status, ingest_status, last_reply, pprof_status, push_status, refusing, reply_for_memory, reply_for_refusal, status_of};
 
-use crate::fault_body::{named, placed};
+use crate::fault_body::{front_ahead, named, placed};
 use faults::Place;
 use folded_reader::FoldedFault;
 use http_session::{Allow, BadRequest, Body, Reply, Status, Text};
@@ -32,6 +33,21 @@ pub fn memory_reply(now: u64, close: bool) -> Reply
     ensures { result ≡ reply_for_memory now close }
 {
     refused(Status::InternalServerError, named("memory"), now, close)
+}
+
+/// The reply to a request that asks for more pushes of its tenant than there are.
+pub(crate) fn ahead_reply(asked: u64, front: u64, now: u64, close: bool) -> Reply
+    ensures { result ≡ reply_for_ahead asked front now close }
+{
+    Reply {
+        status: Status::Conflict,
+        text: Text::Json,
+        body: front_ahead(asked, front),
+        allow: None,
+        front: Some(front),
+        now,
+        close,
+    }
 }
 
 /// The last reply of a connection whose bytes are no request; none where they were cut off.

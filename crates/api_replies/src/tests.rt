@@ -53,8 +53,13 @@ fn replies(
 // Whether these bytes are an ingest of this tenant and this sum.
 fn ingests(alloc: Global, text: &str, tenant: &str, total: u128) -> Result<bool, Fail> {
     match answered(alloc, text)? {
-        Some(Answered::Push(PushForm::Ingest, push)) => {
-            Ok(push.tenant.as_bytes() == tenant.as_bytes() && push.total() == total)
+        Some(Answered::Push(PushForm::Ingest, ask)) => {
+            let push = &ask.push;
+            Ok(
+                push.tenant.as_bytes() == tenant.as_bytes()
+                    && push.total() == total
+                    && ask.asked == 0,
+            )
         }
         _ => Ok(false),
     }
@@ -110,6 +115,46 @@ fn a_push_over_the_limit_is_told_the_three_numbers(rt: HostRuntime) {
             body
         )
     );
+}
+
+#[test]
+fn a_front_ahead_is_told(rt: HostRuntime) {
+    let verdict = Verdict::FrontAhead { asked: 5, front: 3 };
+    let body = "{\"asked\":5,\"fault\":\"front\",\"front\":3}";
+    assert!(rt;
+        tells(
+            verdict,
+            PushForm::Json,
+            Status::Conflict,
+            Text::Json,
+            Some(3),
+            body
+        )
+    );
+}
+
+#[test]
+fn a_front_is_asked_for_by_digits_alone(rt: HostRuntime) -> Result<(), Fail> {
+    let alloc = rt.alloc();
+    let bad = "{\"fault\":\"X1\",\"place\":[]}";
+    let ahead = "{\"asked\":9999999999999999999,\"fault\":\"front\",\"front\":0}";
+    for (header, status, front, body) in [
+        ("0", Status::Ok, Some(0), "{\"names\":[]}"),
+        ("000", Status::Ok, Some(0), "{\"names\":[]}"),
+        ("9999999999999999999", Status::Conflict, Some(0), ahead),
+        ("10000000000000000000", Status::BadRequest, None, bad),
+        ("+1", Status::BadRequest, None, bad),
+        ("", Status::BadRequest, None, bad),
+    ] {
+        let names = format!(in alloc;
+            "POST /querier.v1.QuerierService/LabelNames HTTP/1.1\r\nX-Scope-OrgID: t1\r\nX-Pyro-Front: {header}\r\n\r\n"
+        )?;
+        assert!(rt;
+            replies(alloc, names.as_str(), status, front, body)?,
+            "{header}"
+        );
+    }
+    Ok(())
 }
 
 #[test]

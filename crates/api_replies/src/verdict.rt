@@ -4,7 +4,7 @@ ghost use Rattle.api_replies.specs.Replies.{reply_for_kept, reply_for_verdict};
 
 use crate::answered::answering;
 use crate::fault_body::over_limit;
-use crate::refusal::memory_reply;
+use crate::refusal::{ahead_reply, memory_reply};
 use http_session::{Body, Reply, Status, Text};
 use request_meaning::PushForm;
 
@@ -13,6 +13,11 @@ use request_meaning::PushForm;
 pub enum Verdict {
     /// It was kept as the last of so many pushes of its tenant.
     Kept(u64),
+    /// The tenant has fewer pushes than were asked for.
+    FrontAhead {
+        asked: u64,
+        front: u64,
+    },
     /// The tenant's total and the push's would pass the tenant's limit.
     OverLimit {
         kept: u128,
@@ -44,6 +49,7 @@ pub fn acknowledge(verdict: Verdict, form: PushForm, now: u64, close: bool) -> R
             now,
             close,
         },
+        Verdict::FrontAhead { asked, front } => ahead_reply(asked, front, now, close),
         Verdict::Memory => memory_reply(now, close),
     }
 }

@@ -8,8 +8,9 @@ use Rattle.http_session.specs.Asked.{Asked}
 use Rattle.http_session.specs.declared.reply.Reply.{Reply}
 use Rattle.profile_model.specs.declared.push.Push.{Push}
 use Rattle.request_meaning.specs.Facts.{Facts}
+use Rattle.request_meaning.specs.Forms.{least_front}
 use Rattle.api_replies.specs.declared.verdict.Verdict.{Verdict}
-use Rattle.api_replies.specs.declared.verdict.Verdict.TheVariants.{Kept, OverLimit, Memory}
+use Rattle.api_replies.specs.declared.verdict.Verdict.TheVariants.{Kept, FrontAhead, OverLimit, Memory}
 use Rattle.pyro_server.specs.Settled.{IsSettled}
 use Rattle.pyro_server.specs.Served.{Exchange, IsExchange, InTurn}
 use Rattle.pyro_server.specs.ServedLaws.{HistoryGrows, KeepsItsPlace}
@@ -18,17 +19,18 @@ use Rattle.pyro_server.specs.ServedLaws.{HistoryGrows, KeepsItsPlace}
 stays : (history next : List Push) → next ≡ history → (later : List Push) × (next ≡ history ++ later)
 stays history next same = ([], same ∙ sym (append-nil history))
 
-settled_grows : (limit : ℕ) (history next : List Push) (push : Push) (verdict : Verdict) → IsSettled limit history push verdict next
+settled_grows : (limit : ℕ) (history next : List Push) (push : Push) (least : ℕ) (verdict : Verdict) → IsSettled limit history push least verdict next
     → (later : List Push) × (next ≡ history ++ later)
-settled_grows limit history next push (Kept front) settled = (push ∷ [], settled.2)
-settled_grows limit history next push (OverLimit kept adds told front) settled = stays history next settled.5
-settled_grows limit history next push Memory settled = absurd settled
+settled_grows limit history next push least (Kept front) settled = (push ∷ [], settled.3)
+settled_grows limit history next push least (FrontAhead asked front) settled = stays history next settled.3
+settled_grows limit history next push least (OverLimit kept adds told front) settled = stays history next settled.6
+settled_grows limit history next push least Memory settled = absurd settled
 
 pub exchange_grows : (facts : Facts) (asked : Asked) (history next : List Push) (reply : Reply) → IsExchange facts asked history reply next
     → (later : List Push) × (next ≡ history ++ later)
 exchange_grows facts asked history next reply (inl (inl (is, same))) = stays history next same
 exchange_grows facts asked history next reply (inl (inr (form, push, verdict, write, settled, told))) =
-    settled_grows (facts.limit push.tenant) history next push verdict settled
+    settled_grows (facts.limit push.tenant) history next push (least_front asked) verdict settled
 exchange_grows facts asked history next reply (inr (excused, same)) = stays history next same
 
 -- one history grows to the next, and that to the last
@@ -50,7 +52,7 @@ pub own : (push : Push) → pushes_of (push ∷ []) push.tenant ≡ push ∷ []
 own push = let same : pointwise nat_eq push.tenant push.tenant ≡ true = nat_list_eq_equiv.refl push.tenant in rw same refl
 
 pub keeps_its_place : KeepsItsPlace
-keeps_its_place limit history next later push front (told, room, kept) =
+keeps_its_place limit history next later push least front (enough, told, room, kept) =
     let mine = λ (one : Push). pointwise nat_eq one.tenant push.tenant in
     let count = length-append (pushes_of history push.tenant) (push ∷ []) in (
       omega arith,

@@ -8,12 +8,12 @@ use Rattle.http_session.specs.declared.reply.Status.TheVariants.{Ok}
 use Rattle.push_history.specs.History.{front_of, pushes_of, pushes_total}
 use Rattle.profile_model.specs.declared.push.Push.{Push}
 use Rattle.request_meaning.specs.Facts.{Facts}
-use Rattle.request_meaning.specs.Forms.{tenant_of}
+use Rattle.request_meaning.specs.Forms.{least_front, tenant_of}
 use Rattle.request_meaning.specs.Meanings.{IsWrite}
 use Rattle.api_replies.proofs.ReplyLemmas.{answers_no_write, own_again, reply_alike, shows_its_front, writer_is_named}
 use Rattle.request_meaning.specs.declared.form.PushForm.{PushForm}
 use Rattle.api_replies.specs.declared.verdict.Verdict.{Verdict}
-use Rattle.api_replies.specs.declared.verdict.Verdict.TheVariants.{Kept, OverLimit, Memory}
+use Rattle.api_replies.specs.declared.verdict.Verdict.TheVariants.{Kept, FrontAhead, OverLimit, Memory}
 use Rattle.pyro_server.specs.Given.{Answer}
 use Rattle.pyro_server.specs.Settled.{IsSettled}
 use Rattle.pyro_server.specs.Served.{IsExchange}
@@ -29,13 +29,15 @@ own_stays : (history : List Push) (named : Option (List ℕ)) (tenant : List ℕ
 own_stays history named tenant is = sym (ap (λ (own : List Push). pushes_of own tenant) (ap (own_pushes history) is) ∙ own_again history tenant)
 
 -- what becomes of a push depends on the pushes of its tenant alone
-settled_alike : (limit : ℕ) (history other next : List Push) (push : Push) (verdict : Verdict) → pushes_of history push.tenant ≡ pushes_of other push.tenant
-    → IsSettled limit history push verdict next → (left : List Push) × IsSettled limit other push verdict left
-settled_alike limit history other next push (Kept front) same (told, room, kept) =
-    (other ++ push ∷ [], (told ∙ ap (λ (own : List Push). length own + 1) same, rw same at room, refl))
-settled_alike limit history other next push (OverLimit kept adds shown front) same (kept_is, adds_is, limit_is, told, over, stays) =
-    (other, (kept_is ∙ ap pushes_total same, adds_is, limit_is, told ∙ ap (λ (own : List Push). length own) same, over, refl))
-settled_alike limit history other next push Memory same settled = absurd settled
+settled_alike : (limit : ℕ) (history other next : List Push) (push : Push) (least : ℕ) (verdict : Verdict) → pushes_of history push.tenant ≡ pushes_of other push.tenant
+    → IsSettled limit history push least verdict next → (left : List Push) × IsSettled limit other push least verdict left
+settled_alike limit history other next push least (Kept front) same (enough, told, room, kept) =
+    (other ++ push ∷ [], (subst (λ (n : ℕ). least ≤ n) (ap (λ (own : List Push). length own) same) enough, told ∙ ap (λ (own : List Push). length own + 1) same, rw same at room, refl))
+settled_alike limit history other next push least (FrontAhead asked front) same (ahead, is, told, stays) =
+    (other, (subst (λ (n : ℕ). n < least) (ap (λ (own : List Push). length own) same) ahead, is, told ∙ ap (λ (own : List Push). length own) same, refl))
+settled_alike limit history other next push least (OverLimit kept adds shown front) same (enough, kept_is, adds_is, limit_is, told, over, stays) =
+    (other, (subst (λ (n : ℕ). least ≤ n) (ap (λ (own : List Push). length own) same) enough, kept_is ∙ ap pushes_total same, adds_is, limit_is, told ∙ ap (λ (own : List Push). length own) same, over, refl))
+settled_alike limit history other next push least Memory same settled = absurd settled
 
 answered_alike : (facts : Facts) (history other : List Push) (one : Answer)
     → ((tenant : List ℕ) → tenant_of facts one.asked ≡ Some tenant → pushes_of history tenant ≡ pushes_of other tenant)
@@ -43,7 +45,7 @@ answered_alike : (facts : Facts) (history other : List Push) (one : Answer)
 answered_alike facts history other one same (next, inl (inl (is, stays))) = (other, inl (inl (reply_alike facts one.asked history other one.reply same is, refl)))
 answered_alike facts history other one same (next, inl (inr (form, push, verdict, write, settled, told))) =
     let there =
-    settled_alike (facts.limit push.tenant) history other next push verdict (same push.tenant (writer_is_named facts one.asked form push write)) settled in
+    settled_alike (facts.limit push.tenant) history other next push (least_front one.asked) verdict (same push.tenant (writer_is_named facts one.asked form push write)) settled in
     (there.0, inl (inr (form, push, verdict, write, there.1, told)))
 answered_alike facts history other one same (next, inr (excused, stays)) = (other, inr (excused, refl))
 
@@ -133,10 +135,12 @@ pub keeps_or_stays : (facts : Facts) (history next : List Push) (one : Answer) �
     → Keeps facts history one next ⊎ ((¬ (IsAcknowledged facts one)) × (next ≡ history))
 keeps_or_stays facts history next one (inl (inl (is, stays))) =
     inr (λ (write, ok). answers_no_write facts one.asked history one.reply write.0 write.1 is write.2 ok, stays)
-keeps_or_stays facts history next one (inl (inr (form, push, Kept front, write, (is, room, kept), told))) =
+keeps_or_stays facts history next one (inl (inr (form, push, Kept front, write, (enough, is, room, kept), told))) =
     inl (form, push, write, ap (λ (r : Reply). r.status) told, ap (λ (r : Reply). r.front) told ∙ ap (λ n. Some n) is, kept)
+keeps_or_stays facts history next one (inl (inr (form, push, FrontAhead asked front, write, settled, told))) =
+    inr (λ (write, ok). (let is = ap (λ (r : Reply). r.status) told in cc), settled.3)
 keeps_or_stays facts history next one (inl (inr (form, push, OverLimit kept adds limit front, write, settled, told))) =
-    inr (λ (write, ok). (let is = ap (λ (r : Reply). r.status) told in cc), settled.5)
+    inr (λ (write, ok). (let is = ap (λ (r : Reply). r.status) told in cc), settled.6)
 keeps_or_stays facts history next one (inl (inr (form, push, Memory, write, settled, told))) = absurd settled
 keeps_or_stays facts history next one (inr ((reaches, told), stays)) =
     inr (λ (write, ok). (let is = ap (λ (r : Reply). r.status) told in cc), stays)
@@ -194,14 +198,20 @@ between_fronts facts history next one tenant front (inl (inl (is, stays))) (name
     let told : front ≡ front_of history tenant = own_one.2 ∙ ap (front_of history) same in
     let left : front_of next tenant ≡ front_of history tenant = ap (λ (pushes : List Push). front_of pushes tenant) stays in
     (omega arith, λ (write, ok). absurd (answers_no_write facts one.asked history one.reply write.0 write.1 is write.2 ok), omega arith)
-between_fronts facts history next one tenant front (inl (inr (form, push, Kept kept_front, write, (is, room, kept), told))) (named, shown) =
+between_fronts facts history next one tenant front (inl (inr (form, push, Kept kept_front, write, (enough, is, room, kept), told))) (named, shown) =
     let same = one_name push.tenant tenant (tenant_of facts one.asked) (writer_is_named facts one.asked form push write) named in
     let fronts = one_front kept_front front one.reply.front (ap (λ (r : Reply). r.front) told) shown in
     let before : front_of history push.tenant ≡ front_of history tenant = ap (front_of history) same in
     let after : front_of next tenant ≡ front_of history push.tenant + 1 =
     ap (front_of next) (sym same) ∙ ap (λ (pushes : List Push). front_of pushes push.tenant) kept ∙ front_with history push in
     (omega arith, λ acknowledged. omega arith, omega arith)
-between_fronts facts history next one tenant front (inl (inr (form, push, OverLimit kept adds limit old_front, write, (kept_is, adds_is, limit_is, is, over, stays), told))) (named, shown) =
+between_fronts facts history next one tenant front (inl (inr (form, push, FrontAhead asked old_front, write, (ahead, asked_is, is, stays), told))) (named, shown) =
+    let same = one_name push.tenant tenant (tenant_of facts one.asked) (writer_is_named facts one.asked form push write) named in
+    let fronts = one_front old_front front one.reply.front (ap (λ (r : Reply). r.front) told) shown in
+    let before : front_of history push.tenant ≡ front_of history tenant = ap (front_of history) same in
+    let left : front_of next tenant ≡ front_of history tenant = ap (λ (pushes : List Push). front_of pushes tenant) stays in
+    (omega arith, λ (other, ok). (let status = ap (λ (r : Reply). r.status) told in cc), omega arith)
+between_fronts facts history next one tenant front (inl (inr (form, push, OverLimit kept adds limit old_front, write, (enough, kept_is, adds_is, limit_is, is, over, stays), told))) (named, shown) =
     let same = one_name push.tenant tenant (tenant_of facts one.asked) (writer_is_named facts one.asked form push write) named in
     let fronts = one_front old_front front one.reply.front (ap (λ (r : Reply). r.front) told) shown in
     let before : front_of history push.tenant ≡ front_of history tenant = ap (front_of history) same in

@@ -11,12 +11,14 @@ use Rattle.http_session.specs.declared.reader.NextRequest.TheVariants as came
 use Rattle.http_session.specs.declared.reply.Reply.{Reply}
 use Rattle.profile_model.specs.declared.push.Push.{Push}
 use Rattle.request_meaning.specs.Facts.{Facts}
+use Rattle.request_meaning.specs.Forms.{least_front}
 use Rattle.request_meaning.specs.Meanings.{IsWrite, TakesMemory}
 use Rattle.api_replies.specs.Replies.{reply_for_verdict}
 use Rattle.request_meaning.specs.declared.form.PushForm.{PushForm}
 use Rattle.request_meaning.specs.declared.form.PushForm.TheVariants as written
 use Rattle.api_replies.specs.declared.verdict.Verdict.{Verdict}
-use Rattle.api_replies.specs.declared.verdict.Verdict.TheVariants.{Kept, OverLimit, Memory}
+use Rattle.api_replies.specs.declared.verdict.Verdict.TheVariants.{Kept, FrontAhead, OverLimit, Memory}
+use Rattle.tenant_books.specs.declared.asks.PushAsk.{PushAsk}
 use Rattle.pyro_server.specs.Settled.{IsSettledOrNot}
 use Rattle.pyro_server.specs.Given.{last_bytes}
 use Rattle.pyro_server.specs.Served.{IsExchange}
@@ -50,13 +52,18 @@ write_takes_memory facts asked written.Ingest push write = (_, push.tenant, writ
 write_takes_memory facts asked written.Json push write = (_, push.tenant, write.0)
 
 -- a push was settled, or memory ran out, and its verdict is told
-pub settled_exchange : (facts : Facts) (asked : Asked) (history next : List Push) (reply : Reply) (form : PushForm) (push : Push) (verdict : Verdict)
-    → IsWrite facts asked form push → IsSettledOrNot (facts.limit push.tenant) history push verdict next
+pub settled_exchange : (facts : Facts) (asked : Asked) (history next : List Push) (reply : Reply) (form : PushForm) (ask : PushAsk) (verdict : Verdict)
+    → IsWrite facts asked form ask.push × (ask.asked ≡ least_front asked) → IsSettledOrNot (facts.limit ask.push.tenant) history ask.push ask.asked verdict next
     → reply ≡ reply_for_verdict verdict form asked.moment asked.close → IsExchange facts asked history reply next
-settled_exchange facts asked history next reply form push (Kept front) write settled told = inl (inr (form, push, Kept front, write, settled, told))
-settled_exchange facts asked history next reply form push (OverLimit kept adds limit front) write settled told =
-    inl (inr (form, push, OverLimit kept adds limit front, write, settled, told))
-settled_exchange facts asked history next reply form push Memory write settled told = inr ((write_takes_memory facts asked form push write, told), settled)
+settled_exchange facts asked history next reply form ask verdict (write, least) settled told =
+    by verdict (subst (λ n. IsSettledOrNot (facts.limit ask.push.tenant) history ask.push n verdict next) least settled) told
+  where
+    by : (verdict : Verdict) → IsSettledOrNot (facts.limit ask.push.tenant) history ask.push (least_front asked) verdict next
+        → reply ≡ reply_for_verdict verdict form asked.moment asked.close → IsExchange facts asked history reply next
+    by Memory stays said = inr ((write_takes_memory facts asked form ask.push write, said), stays)
+    by (Kept front) is said = inl (inr (form, ask.push, Kept front, write, is, said))
+    by (FrontAhead least front) is said = inl (inr (form, ask.push, FrontAhead least front, write, is, said))
+    by (OverLimit kept adds limit front) is said = inl (inr (form, ask.push, OverLimit kept adds limit front, write, is, said))
 
 module _ (facts : Facts) (old new : Progress) (history next : List Push) where
   -- a request was taken, and its reply given

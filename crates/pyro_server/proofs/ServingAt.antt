@@ -7,12 +7,12 @@ use Rattle.std.proofs.lemmas.List.Elements.{All-nil, All-cons, All-weaker}
 use Rattle.link_trait.specs.Link.{Told}
 use Rattle.push_history.specs.History.{front_of}
 use Rattle.profile_model.specs.declared.push.Push.{Push}
-use Rattle.request_meaning.specs.Forms.{tenant_of}
+use Rattle.request_meaning.specs.Forms.{least_front, tenant_of}
 use Rattle.request_meaning.specs.Facts.{Facts}
 use Rattle.api_replies.specs.Replies.{IsExcused, reply_for_verdict}
 use Rattle.request_meaning.specs.declared.form.PushForm.{PushForm}
 use Rattle.api_replies.specs.declared.verdict.Verdict.{Verdict}
-use Rattle.api_replies.specs.declared.verdict.Verdict.TheVariants.{Kept, OverLimit, Memory}
+use Rattle.api_replies.specs.declared.verdict.Verdict.TheVariants.{Kept, FrontAhead, OverLimit, Memory}
 use Rattle.api_replies.proofs.FailureLemmas.{never_both}
 use Rattle.http_session.specs.declared.reply.Reply.{Reply}
 use Rattle.http_session.specs.declared.reply.Status.TheVariants.{InternalServerError}
@@ -179,17 +179,18 @@ is_one_or_the_other facts answers history base at =
     All-weaker (IsAnsweredAt facts history) (λ one. IsDefinedAt facts history one ⊎ IsExcused facts one.asked one.reply)
     (one_or_the_other facts history) answers at.replies
 
--- a push that is settled is told that it was kept, or that its tenant's limit would be passed
-settled_no_failure : (limit : ℕ) (history next : List Push) (push : Push) (verdict : Verdict) (form : PushForm) (now : ℕ) (close : Bool)
-    → IsSettled limit history push verdict next → (reply_for_verdict verdict form now close).status ≢ InternalServerError
-settled_no_failure limit history next push (Kept front) form now close settled = λ is. cc
-settled_no_failure limit history next push (OverLimit kept adds told front) form now close settled = λ is. cc
-settled_no_failure limit history next push Memory form now close settled = absurd settled
+-- a push that is settled is told what became of it, and no failure
+settled_no_failure : (limit : ℕ) (history next : List Push) (push : Push) (least : ℕ) (verdict : Verdict) (form : PushForm) (now : ℕ) (close : Bool)
+    → IsSettled limit history push least verdict next → (reply_for_verdict verdict form now close).status ≢ InternalServerError
+settled_no_failure limit history next push least (FrontAhead asked front) form now close settled = λ is. cc
+settled_no_failure limit history next push least (Kept front) form now close settled = λ is. cc
+settled_no_failure limit history next push least (OverLimit kept adds told front) form now close settled = λ is. cc
+settled_no_failure limit history next push least Memory form now close settled = absurd settled
 
 pub is_never_both : IsNeverBoth
 is_never_both facts history next one (inl (is, stays)) excused = never_both facts one.asked history one.reply is excused
 is_never_both facts history next one (inr (form, push, verdict, write, settled, told)) excused =
-    settled_no_failure (facts.limit push.tenant) history next push verdict form one.asked.moment one.asked.close settled
+    settled_no_failure (facts.limit push.tenant) history next push (least_front one.asked) verdict form one.asked.moment one.asked.close settled
     (ap (λ (r : Reply). r.status) (sym told) ∙ ap (λ (r : Reply). r.status) excused.1)
 
 -- ---- the account

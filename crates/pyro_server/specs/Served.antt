@@ -5,6 +5,7 @@ use Rattle.link_trait.specs.Link.{Told}
 use Rattle.http_session.specs.declared.reply.Reply.{Reply}
 use Rattle.profile_model.specs.declared.push.Push.{Push}
 use Rattle.request_meaning.specs.Facts.{Facts}
+use Rattle.request_meaning.specs.Forms.{least_front}
 use Rattle.request_meaning.specs.Meanings.{IsWrite}
 use Rattle.api_replies.specs.Replies.{IsReply, IsExcused, reply_for_verdict}
 use Rattle.request_meaning.specs.declared.form.PushForm.{PushForm}
@@ -19,7 +20,7 @@ abbrev pub IsDefined : Facts → Asked → List Push → Reply → List Push →
 IsDefined facts asked history reply next =
     (IsReply facts asked history reply × (next ≡ history))
     ⊎ ((form : PushForm) × (push : Push) × (verdict : Verdict) × IsWrite facts asked form push
-    × IsSettled (facts.limit push.tenant) history push verdict next
+    × IsSettled (facts.limit push.tenant) history push (least_front asked) verdict next
     × (reply ≡ reply_for_verdict verdict form asked.moment asked.close))
 
 -- the reply by definition, or one that is excused, which leaves the history as it is

@@ -65,7 +65,7 @@ HistoryGrows =
 -- its tenant, itself the last of them, and then those that came after it.
 abbrev pub KeepsItsPlace : Type 0
 KeepsItsPlace =
-    (limit : ℕ) (history next later : List Push) (push : Push) (front : ℕ) → IsSettled limit history push (Kept front) next
+    (limit : ℕ) (history next later : List Push) (push : Push) (least front : ℕ) → IsSettled limit history push least (Kept front) next
     → (front ≡ length (pushes_of history push.tenant ++ push ∷ []))
     × (pushes_of (next ++ later) push.tenant ≡ (pushes_of history push.tenant ++ push ∷ []) ++ pushes_of later push.tenant)
 

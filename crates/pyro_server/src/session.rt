@@ -149,8 +149,8 @@ fn reply_to(alloc: Global, request: &Request, history: &mut Vec<Push>, config: &
 {
     match answer(alloc, request, history, config) {
         Answered::Reply(reply) => reply,
-        Answered::Push(form, push) => {
-            let verdict = settle(history, push);
+        Answered::Push(form, ask) => {
+            let verdict = settle(history, ask);
             acknowledge(verdict, form, request.moment(), request.close())
         }
     }

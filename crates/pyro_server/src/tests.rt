@@ -1,4 +1,5 @@
 // The whole path, from the bytes that come in to the bytes that go out.
+mod fronts;
 mod pushes;
 mod queries;
 mod refusals;

@@ -1,13 +1,13 @@
 -- The selectors of texts, and what the body of a query for labels asks.
-use Rattle.std.proofs.Common.{◌≡◌, ◌≢◌, ◌⊎◌, ⊎_elim, inl, inr, ◌+◌, ◌<◌, ◌≤◌, ℕ, List, [], ◌∷◌, ◌++◌, Bool, true, false, cond, refl, sym, ap, subst, ◌∙◌, arith, length, take, drop, fold, map, Ok, Err, get_or, codes}
-use Rattle.std.specs.Prelude.{◌&&◌, nat_le, not, filter, Option, Some, None, is_ok, is_some, option_map, Result, MatchResult}
+use Rattle.std.proofs.Common.{◌≡◌, inr, ◌+◌, ◌<◌, ◌≤◌, ℕ, List, [], ◌∷◌, ◌++◌, true, refl, sym, ap, subst, ◌∙◌, length, take, drop, map, Ok, Err, get_or, codes}
+use Rattle.std.specs.Prelude.{not, Option, Some, None, is_ok, is_some, option_map, Result, MatchResult}
 use Rattle.std.specs.List.{position}
 use Rattle.faults.specs.Answers.{IfFault}
 use Rattle.faults.specs.declared.refused.Refused.{Refused}
 use Rattle.faults.specs.declared.refused.Refused.TheVariants.{Fault, Memory}
 use Rattle.std.proofs.lemmas.Bool.{false≢true}
 use Rattle.std.proofs.lemmas.Result.{MatchResult-at_ok}
-use Rattle.std.proofs.lemmas.List.{take_all, take_more, drop_more, take-append-drop, length-map, map-append}
+use Rattle.std.proofs.lemmas.List.{take_more, drop_more, take-append-drop, length-map, map-append}
 use Rattle.selector.specs.Matching.{Matching}
 use Rattle.selector.specs.Read.{IsReadSelector}
 use Rattle.selector.specs.declared.fault.SelectorFault.{SelectorFault}

@@ -1,6 +1,6 @@
 -- What a request means, from what its parts do.
-use Rattle.std.proofs.Common.{◌≡◌, ◌∙◌, Bool, true, false, List, ℕ, Err, Ok, Some, None, inr, refl, sym, ap, subst}
-use Rattle.std.specs.Prelude.{MatchResult, Option, Result, if◌then◌else◌}
+use Rattle.std.proofs.Common.{◌≡◌, ◌∙◌, Bool, true, false, List, ℕ, Some, None, inr, refl, sym, ap, subst}
+use Rattle.std.specs.Prelude.{Option, if◌then◌else◌}
 use Rattle.faults.specs.Answers.{IfFault, IsMapped}
 use Rattle.faults.specs.declared.refused.Refused.{Refused}
 use Rattle.faults.specs.declared.refused.Refused.TheVariants.{Fault, Memory}
@@ -32,7 +32,7 @@ labels_mean facts asked method tenant (Query (ask.Labels what)) reach (same, is,
 labels_mean facts asked method tenant meaning reach says = absurd says
 
 -- what the parameters and the body of a request that comes so far say is what it means
-says_meaning : (facts : Facts) (asked : Asked) (one : Route) (tenant : List ℕ) (meaning : Meaning) → Reaches facts asked one tenant
+pub says_meaning : (facts : Facts) (asked : Asked) (one : Route) (tenant : List ℕ) (meaning : Meaning) → Reaches facts asked one tenant
     → Says asked one tenant meaning → Means facts asked meaning
 says_meaning facts asked route.Ingest tenant (Write written.Ingest push) reach (same, says) = (subst (Reaches facts asked route.Ingest) (sym same) reach, says)
 says_meaning facts asked route.Push tenant (Write written.Json push) reach (same, says) = (subst (Reaches facts asked route.Push) (sym same) reach, says)
@@ -43,11 +43,10 @@ says_meaning facts asked route.Series tenant meaning reach says = labels_mean fa
 says_meaning facts asked one tenant meaning reach says = absurd says
 
 -- and what stops it there is why it isn't served
-pub by_route : (facts : Facts) (asked : Asked) (one : Route) (tenant : List ℕ) (read : Result Meaning (Refused Refusal)) → Reaches facts asked one tenant
-    → MatchResult read (Says asked one tenant) (IfFault (IsReadFault asked one)) → MatchResult read (Means facts asked) (IsUnserved facts asked)
-by_route facts asked one tenant (Ok meaning) reach says = says_meaning facts asked one tenant meaning reach says
-by_route facts asked one tenant (Err (Fault refusal)) reach stops = inr (one, tenant, reach, stops)
-by_route facts asked one tenant (Err Memory) reach stops = (one, tenant, reach)
+pub stopped_at : (facts : Facts) (asked : Asked) (one : Route) (tenant : List ℕ) (refused : Refused Refusal) → Reaches facts asked one tenant
+    → IfFault (IsReadFault asked one) refused → IsUnserved facts asked refused
+stopped_at facts asked one tenant (Fault refusal) reach stops = inr (one, tenant, reach, stops)
+stopped_at facts asked one tenant Memory reach stops = (one, tenant, reach)
 
 -- a fault that is told by another, which says what the first did
 pub told_so : {F G : Type 0} {R : F → G → Type 0} {P : F → Type 0} {Q : G → Type 0} (before : Refused F) (after : Refused G)

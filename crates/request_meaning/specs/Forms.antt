@@ -1,8 +1,9 @@
 -- What of a request is looked at before its parameters and its body: its route, its tenant and its forms.
-use Rattle.std.specs.Prelude.{◌||◌, ℕ, Bool, true, false, not, List, [], ◌∷◌, map, nat_eq, is_some, codes, Option, Some, None, if◌then◌else◌}
+use Rattle.std.specs.Prelude.{◌||◌, ℕ, Bool, true, false, not, List, map, nat_eq, codes, unwrap_or, Option, Some, None, if◌then◌else◌}
 use Rattle.std.specs.Char.{to_ascii_lowercase}
 use Rattle.std.specs.Cmp.Lexicographic.{pointwise}
 use Rattle.http_session.specs.Asked.{Asked}
+use Rattle.wire_forms.specs.Digits.{number_of}
 use Rattle.wire_forms.specs.Gzip.{begins_as_gzip}
 use Rattle.routes.specs.Paths.{found_at}
 use Rattle.routes.specs.declared.route.Route.{Route}
@@ -60,6 +61,11 @@ is_coded (Some coding) = not (is_text (map to_ascii_lowercase coding) (codes "id
 abbrev pub is_encoded : Asked → Bool
 is_encoded asked = is_coded asked.encoding || begins_as_gzip asked.body
 
--- a front is asked for, which isn't read yet
-abbrev pub asks_for_front : Asked → Bool
-asks_for_front asked = is_some asked.front
+-- the number that a header X-Pyro-Front says: 1 to 19 digits, 0 where there is no header, and none where it is another text
+abbrev pub front_in : Option (List ℕ) → Option ℕ
+front_in None = Some 0
+front_in (Some text) = number_of 19 text
+
+-- how many pushes its tenant must have
+abbrev pub least_front : Asked → ℕ
+least_front asked = unwrap_or (front_in asked.front) 0

@@ -4,6 +4,7 @@ use Rattle.http_session.specs.Asked.{Asked}
 use Rattle.ingest.specs.Ingests.{SaysProfiles, IsIngestFault}
 use Rattle.json_push.specs.Pushed.{SaysPushed, IsPushFault}
 use Rattle.profile_model.specs.TenantPlaces.{wrong_place}
+use Rattle.profile_model.specs.declared.part_ask.PartAsk.{PartAsk}
 use Rattle.profile_model.specs.declared.push.Push.{Push as Kept}
 use Rattle.query_parameters.specs.Parameters.{parameters_of}
 use Rattle.routes.specs.Paths.{found_at}
@@ -13,7 +14,7 @@ use Rattle.routes.specs.declared.route.Found.TheVariants as found
 use Rattle.request_meaning.specs.Facts.{Facts}
 use Rattle.faults.specs.declared.refused.Refused.{Refused}
 use Rattle.faults.specs.declared.refused.Refused.TheVariants.{Fault, Memory}
-use Rattle.request_meaning.specs.Forms.{is_built, route_at, route_of, tenant_of, is_encoded, asks_for_front}
+use Rattle.request_meaning.specs.Forms.{is_built, route_at, route_of, tenant_of, is_encoded, front_in, least_front}
 use Rattle.request_meaning.specs.Renders.{IsRenderAsk, IsRenderFault}
 use Rattle.request_meaning.specs.LabelAsks.{IsLabelAsk, IsLabelFault, method_of}
 use Rattle.request_meaning.specs.declared.ask.Ask.{Ask}
@@ -22,6 +23,7 @@ use Rattle.request_meaning.specs.declared.form.PushForm.{PushForm}
 use Rattle.request_meaning.specs.declared.form.PushForm.TheVariants as written
 use Rattle.request_meaning.specs.declared.meaning.Meaning.{Meaning}
 use Rattle.request_meaning.specs.declared.meaning.Meaning.TheVariants.{Write, Query}
+use Rattle.request_meaning.specs.declared.meaning.Meant.{Meant}
 use Rattle.request_meaning.specs.declared.method.LabelMethod.TheVariants.{Names, Values, Series}
 use Rattle.request_meaning.specs.declared.refusal.Refusal.{Refusal}
 use Rattle.request_meaning.specs.declared.refusal.Refusal.TheVariants as refused
@@ -38,7 +40,7 @@ pub record Reaches (facts : Facts) (asked : Asked) (one : Route) (tenant : List 
   pub named : tenant_of facts asked ≡ Some tenant
   pub rightly : wrong_place tenant ≡ None
   pub plain : is_encoded asked ≡ false
-  pub built : asks_for_front asked ≡ false
+  pub asks : IsSome (front_in asked.front)
 
 -- the request is a write of this push, in this form
 abbrev pub IsWrite : Facts → Asked → PushForm → Kept → Type 0
@@ -51,6 +53,11 @@ abbrev pub IsAsk : Facts → Asked → Ask → Type 0
 IsAsk facts asked (ask.Render what) = Reaches facts asked route.Render what.part.tenant × IsRenderAsk (parameters_of asked.query) asked.moment what
 IsAsk facts asked (ask.Labels what) =
     Reaches facts asked (route_of (method_of what.query)) what.part.tenant × IsLabelAsk (method_of what.query) asked.body what
+
+-- what a query asks of each part of a history
+abbrev pub part_of : Ask → PartAsk
+part_of (ask.Render what) = what.part
+part_of (ask.Labels what) = what.part
 
 -- the request comes so far that memory is taken for it
 abbrev pub TakesMemory : Facts → Asked → Type 0
@@ -69,9 +76,8 @@ IsRefusedOutright facts asked refused.NoTenant = IsSome (route_at asked) × (ten
 IsRefusedOutright facts asked (refused.BadTenant at) =
     IsSome (route_at asked) × ((tenant : List ℕ) × (tenant_of facts asked ≡ Some tenant) × (wrong_place tenant ≡ Some at))
 IsRefusedOutright facts asked refused.Encoded = (tenant : List ℕ) × IsRouted facts asked tenant × (is_encoded asked ≡ true)
-IsRefusedOutright facts asked refused.Unbuilt =
-    IsMisrouted asked refused.Unbuilt
-    ⊎ ((tenant : List ℕ) × IsRouted facts asked tenant × (is_encoded asked ≡ false) × (asks_for_front asked ≡ true))
+IsRefusedOutright facts asked refused.Front =
+    (tenant : List ℕ) × IsRouted facts asked tenant × (is_encoded asked ≡ false) × (front_in asked.front ≡ None)
 IsRefusedOutright facts asked refusal = IsMisrouted asked refusal
 
 -- the first fault of the parameters and the body of a request to ingest, and of a push
@@ -103,6 +109,10 @@ IsRefused facts asked refusal =
 abbrev pub Means : Facts → Asked → Meaning → Type 0
 Means facts asked (Write form push) = IsWrite facts asked form push
 Means facts asked (Query what) = IsAsk facts asked what
+
+-- the same, and how many pushes its tenant must have
+abbrev pub IsMeant : Facts → Asked → Meant → Type 0
+IsMeant facts asked meant = Means facts asked meant.what × (meant.least_front ≡ least_front asked)
 
 -- why a request isn't served: its first refusal; or memory ran out, once memory is taken for it
 abbrev pub IsUnserved : Facts → Asked → Refused Refusal → Type 0

@@ -4,7 +4,7 @@ use Rattle.ingest.specs.Faults as ingest
 use Rattle.json_push.specs.Faults as pushed
 use Rattle.selector.specs.Faults as selector
 use Rattle.request_meaning.specs.declared.refusal.Refusal.{Refusal}
-use Rattle.request_meaning.specs.declared.refusal.Refusal.TheVariants.{NoRoute, WrongMethod, Unbuilt, NoTenant, BadTenant, Encoded, Ingest, Push, NoQuery, Selector, From, Until, Window, NotObject, WrongKind}
+use Rattle.request_meaning.specs.declared.refusal.Refusal.TheVariants.{NoRoute, WrongMethod, Unbuilt, NoTenant, BadTenant, Encoded, Front, Ingest, Push, NoQuery, Selector, From, Until, Window, NotObject, WrongKind}
 
 -- the code or the word that stands for it
 abbrev pub code_of : Refusal → List ℕ
@@ -14,6 +14,7 @@ code_of Unbuilt = codes "unbuilt"
 code_of NoTenant = codes "tenant"
 code_of (BadTenant at) = codes "T1"
 code_of Encoded = codes "encoding"
+code_of Front = codes "X1"
 code_of (Ingest fault) = ingest.code_of fault
 code_of (Push fault) = pushed.code_of fault
 code_of NoQuery = codes "Q1"
@@ -32,6 +33,7 @@ place_of Unbuilt = None
 place_of NoTenant = None
 place_of (BadTenant at) = Some (at ∷ [])
 place_of Encoded = None
+place_of Front = Some []
 place_of (Ingest fault) = Some (ingest.place_of fault)
 place_of (Push fault) = Some (pushed.place_of fault)
 place_of NoQuery = Some []

@@ -1,4 +1,7 @@
 // What a query asks for.
+ghost use Rattle.std.specs.Prelude.{◌≡◌};
+ghost use Rattle.request_meaning.specs.Meanings.{part_of};
+
 use profile_model::{Name, PartAsk};
 use selector::{Query, Selector};
 
@@ -7,6 +10,18 @@ use selector::{Query, Selector};
 pub enum Ask {
     Render(RenderAsk),
     Labels(LabelAsk),
+}
+
+impl Ask {
+    /// The tenant and the window that it asks for.
+    pub fn part(&self) -> &PartAsk
+        ensures { result.now ≡ part_of self.now }
+    {
+        match self {
+            Ask::Render(ask) => &ask.part,
+            Ask::Labels(ask) => &ask.part,
+        }
+    }
 }
 
 /// The stacks of the profiles that a query matches.

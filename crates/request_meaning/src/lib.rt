@@ -13,6 +13,6 @@ mod render_form;
 pub use ask::{Ask, LabelAsk, LabelQuery, RenderAsk};
 pub use config::Config;
 pub use form::PushForm;
-pub use meaning::{Meaning, meaning_of};
+pub use meaning::{Meaning, Meant, meaning_of};
 pub use method::LabelMethod;
 pub use refusal::Refusal;

@@ -2,8 +2,8 @@
 ghost use Rattle.std.specs.Prelude.{◌≡◌, true, ◌≢◌, MatchResult, Some, option_map};
 ghost use Rattle.faults.specs.Answers.{IfFault};
 ghost use Rattle.request_meaning.specs.Facts.{facts_of};
-ghost use Rattle.request_meaning.specs.Forms.{is_built, is_coded, is_encoded, route_at, route_of, tenant_of};
-ghost use Rattle.request_meaning.specs.Meanings.{IsMisrouted, IsPushedFault, IsReadFault, IsRefusedOutright, IsUnserved, IsWriteFault, Means, Reaches};
+ghost use Rattle.request_meaning.specs.Forms.{front_in, is_built, is_coded, is_encoded, least_front, route_at, route_of, tenant_of};
+ghost use Rattle.request_meaning.specs.Meanings.{IsMeant, IsMisrouted, IsPushedFault, IsReadFault, IsRefusedOutright, IsUnserved, IsWriteFault, Reaches};
 ghost use Rattle.request_meaning.specs.ReadParts.{Says};
 ghost use Rattle.ingest.specs.Ingests.{SaysProfiles};
 ghost use Rattle.json_push.specs.Pushed.{SaysPushed};
@@ -24,7 +24,7 @@ use profile_model::{Push, Tenant, wrong_tenant_byte};
 use query_parameters::read_parameters;
 use routes::{Found, Route};
 use std::alloc::Global;
-use wire_forms::begins_as_gzip;
+use wire_forms::{begins_as_gzip, digits_of};
 
 /// What is to be done.
 #[derive(Drop)]
@@ -33,26 +33,37 @@ pub enum Meaning {
     Query(Ask),
 }
 
+/// What a request means, and how many pushes its tenant must have for it: 0 where it doesn't say.
+#[derive(Drop)]
+pub struct Meant {
+    pub what: Meaning,
+    pub least_front: u64,
+}
+
 /// What the request means. Refusals come in their order, the first that holds.
 pub fn meaning_of(
     alloc: Global,
     request: &Request,
     config: &Config,
-) -> Result<Meaning, Refused<Refusal>>
+) -> Result<Meant, Refused<Refusal>>
     ensures { MatchResult result
-        (Means (facts_of config.now) request.now) (IsUnserved (facts_of config.now) request.now) }
+        (IsMeant (facts_of config.now) request.now) (IsUnserved (facts_of config.now) request.now) }
 {
-    let (route, name) = judge(request, config)?;
-    match Tenant::read(alloc, name) {
-        Ok(tenant) => read_for(alloc, request, route, tenant),
-        Err(_) => Err(Refused::Memory),
+    let (route, name, least_front) = judge(request, config)?;
+    let Ok(tenant) = Tenant::read(alloc, name) else {
+        return Err(Refused::Memory);
+    };
+    match read_for(alloc, request, route, tenant) {
+        Ok(what) => Ok(Meant { what, least_front }),
+        Err(refused) => Err(refused),
     }
 }
 
-// The route and the tenant's name, where nothing refuses the request before its parameters and its body.
-fn judge<'r>(request: &'r Request, config: &Config) -> Result<(Route, &'r [u8]), Refusal>
+// The route, the tenant's name and the front that is asked for, where nothing refuses the request before its parameters and
+// its body.
+fn judge<'r>(request: &'r Request, config: &Config) -> Result<(Route, &'r [u8], u64), Refusal>
     ensures { MatchResult result
-        (λ judged. Reaches (facts_of config.now) request.now judged.0 judged.1.now)
+        (λ judged. Reaches (facts_of config.now) request.now judged.0 judged.1.now × (judged.2 ≡ least_front request.now))
         (IsRefusedOutright (facts_of config.now) request.now) }
 {
     let route = route_at(request, config)?;
@@ -65,10 +76,10 @@ fn judge<'r>(request: &'r Request, config: &Config) -> Result<(Route, &'r [u8]),
     if is_encoded(request) {
         return Err(Refusal::Encoded);
     }
-    if request.front().is_some() {
-        return Err(Refusal::Unbuilt);
-    }
-    Ok((route, name))
+    let Some(least_front) = front_in(request.front()) else {
+        return Err(Refusal::Front);
+    };
+    Ok((route, name, least_front))
 }
 
 // What the method and the path name, where it is built.
@@ -185,6 +196,16 @@ fn is_encoded(request: &Request) -> bool
     ensures { result ≡ is_encoded request.now }
 {
     is_coded(request.encoding()) || begins_as_gzip(request.body())
+}
+
+// The number that the header says, 0 where it isn't there.
+fn front_in(header: Option<&[u8]>) -> Option<u64>
+    ensures { result ≡ front_in (option_map (λ text. text.now) header.entry) }
+{
+    match header {
+        Some(text) => digits_of(text, 19),
+        None => Some(0),
+    }
 }
 
 // A coding other than `identity`.

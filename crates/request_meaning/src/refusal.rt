@@ -22,6 +22,8 @@ pub enum Refusal {
     BadTenant(usize),
     /// The body isn't sent as it is.
     Encoded,
+    /// The header `X-Pyro-Front` is no number of 1 to 19 digits.
+    Front,
     Ingest(IngestFault),
     Push(PushFault),
     /// A render without the parameter `query`.
@@ -52,6 +54,7 @@ impl Refusal {
             Refusal::NoTenant => "tenant",
             Refusal::BadTenant(_) => "T1",
             Refusal::Encoded => "encoding",
+            Refusal::Front => "X1",
             Refusal::Ingest(fault) => fault.code(),
             Refusal::Push(fault) => fault.code(),
             Refusal::NoQuery => "Q1",
@@ -80,7 +83,9 @@ impl Refusal {
             Refusal::From => Some(Place::At(1)),
             Refusal::Until => Some(Place::At(2)),
             Refusal::WrongKind(number) => Some(Place::At(number)),
-            Refusal::NoQuery | Refusal::Window | Refusal::NotObject => Some(Place::Whole),
+            Refusal::Front | Refusal::NoQuery | Refusal::Window | Refusal::NotObject => {
+                Some(Place::Whole)
+            }
         }
     }
 }

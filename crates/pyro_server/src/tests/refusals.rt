@@ -175,9 +175,9 @@ fn refusals_come_in_their_order(rt: HostRuntime) -> Result<(), Fail> {
             "{\"fault\":\"encoding\"}",
         ),
         (
-            "POST /ingest?name= HTTP/1.1\r\nX-Scope-OrgID: t1\r\nContent-Encoding: Identity\r\nX-Pyro-Front: 1\r\n\r\n",
-            "501 Not Implemented",
-            "{\"fault\":\"unbuilt\"}",
+            "POST /ingest?name= HTTP/1.1\r\nX-Scope-OrgID: t1\r\nContent-Encoding: Identity\r\nX-Pyro-Front: +1\r\n\r\n",
+            BAD,
+            "{\"fault\":\"X1\",\"place\":[]}",
         ),
         (
             "GET /pyroscope/render HTTP/1.1\r\nX-Scope-OrgID: t1\r\n\r\n",

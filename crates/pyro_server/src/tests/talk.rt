@@ -114,6 +114,22 @@ pub(super) fn post(alloc: Global, target: &str, body: &[u8]) -> Result<Vec<u8>, 
     Ok(request)
 }
 
+/// A post that asks for so many pushes of its tenant.
+pub(super) fn post_asking(
+    alloc: Global,
+    target: &str,
+    body: &[u8],
+    asked: u64,
+) -> Result<Vec<u8>, AllocError> {
+    let length = body.len();
+    let head = format!(in alloc;
+        "POST {target} HTTP/1.1\r\nX-Scope-OrgID: t1\r\nX-Pyro-Front: {asked}\r\nContent-Length: {length}\r\n\r\n"
+    )?;
+    let mut request = Vec::from_slice(alloc, head.as_str().as_bytes())?;
+    request.extend_from_slice(body)?;
+    Ok(request)
+}
+
 /// An answer that counts so many pushes.
 pub(super) fn answered(
     alloc: Global,

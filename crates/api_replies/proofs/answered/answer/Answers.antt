@@ -1,13 +1,11 @@
 use Rattle.std.proofs.Common.{inl, inr}
 use Rattle.request_meaning.specs.Facts.{facts_of}
-use Rattle.api_replies.proofs.AnswerLemmas.{query_answered}
+use Rattle.api_replies.proofs.AnswerLemmas.{meant_answered}
 use Rattle.api_replies.proofs.answered.answer.Goals as goal
 
-pub returns-in-Ok-Query : goal.returns-in-Ok-Query
-returns-in-Ok-Query c = record {
-  answer =
-      query_answered (facts_of c.args.config.now) c.args.request.now c.args.history.now c.in-Ok-Query.ask c.answer_query.result
-      (rw c.in-Ok-Query.field-0-is at c.in-Ok-Query.ensures) c.answer_query.ensures;
+pub returns-in-Ok : goal.returns-in-Ok
+returns-in-Ok c = record {
+  answer = meant_answered (facts_of c.args.config.now) c.args.request.now c.args.history.now c.in-Ok.meant c.answer_meant.result c.in-Ok.ensures c.answer_meant.ensures;
 }
 
 pub returns-in-Err-Fault : goal.returns-in-Err-Fault

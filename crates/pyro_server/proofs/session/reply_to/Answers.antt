@@ -9,5 +9,5 @@ returns-in-Reply-clause-exchange c =
 
 pub returns-in-Push-clause-exchange : goal.returns-in-Push-clause-exchange
 returns-in-Push-clause-exchange c =
-    settled_exchange (facts_of c.args.config.now) c.args.request.now _ _ _ c.in-Push.form c.in-Push.push c.settle-verdict.result c.in-Push.ensures.answer
+    settled_exchange (facts_of c.args.config.now) c.args.request.now _ _ _ c.in-Push.form c.in-Push.ask c.settle-verdict.result c.in-Push.ensures.answer
     c.settle-verdict.ensures.settled (rw (c.moment.ensures, c.close.ensures) at c.acknowledge.ensures)

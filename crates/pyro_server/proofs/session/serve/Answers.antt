@@ -1,4 +1,4 @@
-use Rattle.std.proofs.Common.{◌≡◌, ◌+◌, ◌<◌, ◌∙◌, false, refl, ap, subst, arith, lit<, ℕ}
+use Rattle.std.proofs.Common.{◌≡◌, ◌+◌, ◌∙◌, refl, ap, subst, arith, lit<, ℕ}
 use Rattle.http_session.specs.Limits.{most_requests}
 use Rattle.http_session.specs.Progress.{Progress}
 use Rattle.http_session.specs.Takes.{IsWhole}

@@ -1,4 +1,3 @@
-use Rattle.std.proofs.Common.{subst, sym}
 use Rattle.std.proofs.lemmas.Result.{err_from_is_err_and}
 use Rattle.request_meaning.proofs.MeaningLemmas.{labels_fault}
 use Rattle.request_meaning.proofs.meaning.read_labels.Goals as goal

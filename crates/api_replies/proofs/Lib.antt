@@ -1,6 +1,5 @@
 pub mod AnswerLemmas
 pub mod FailureLemmas
-pub mod LabelLemmas
-pub mod RenderingLemmas
 pub mod ReplyLemmas
 pub mod StatusLemmas
+pub mod QueryLemmas

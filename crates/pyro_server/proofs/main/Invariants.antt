@@ -1,0 +1,5 @@
+use Rattle.std.proofs.Common.{[]}
+use Rattle.pyro_server.proofs.main.Given as goal
+
+abbrev pub ghost-run : goal.ghost-run
+ghost-run g = []

@@ -19,14 +19,6 @@ placed_body code place =
 abbrev pub ahead_body : ℕ → ℕ → List ℕ
 ahead_body asked front = codes "{\"asked\":" ++ decimal asked ++ codes ",\"fault\":\"front\",\"front\":" ++ decimal front ++ codes "}"
 
--- {"fault":"disk","faults":COUNT}
-abbrev pub disk_body : ℕ → List ℕ
-disk_body count = codes "{\"fault\":\"disk\",\"faults\":" ++ decimal count ++ codes "}"
-
--- {"fault":"full","records":RECORDS}
-abbrev pub full_body : ℕ → List ℕ
-full_body records = codes "{\"fault\":\"full\",\"records\":" ++ decimal records ++ codes "}"
-
 -- {"asked":PUSH,"fault":"limit","kept":KEPT,"limit":LIMIT}
 abbrev pub limit_body : ℕ → ℕ → ℕ → List ℕ
 limit_body push kept limit =

@@ -15,9 +15,7 @@ use Rattle.json_push.specs.declared.fault.PushFault.{PushFault}
 use Rattle.json_push.specs.declared.fault.PushFault.TheVariants as push
 use Rattle.pprof_codec.specs.declared.fault.PprofFault.{PprofFault}
 use Rattle.pprof_codec.specs.declared.fault.PprofFault.TheVariants as pprof
-use Rattle.api_replies.specs.FaultBodies.{disk_body, full_body, named_body, placed_body}
-use Rattle.query_reading.specs.declared.reading.ReadingFault.{ReadingFault}
-use Rattle.query_reading.specs.declared.reading.ReadingFault.TheVariants as unread
+use Rattle.api_replies.specs.FaultBodies.{named_body, placed_body}
 use Rattle.request_meaning.specs.Refusals.{code_of, place_of}
 use Rattle.request_meaning.specs.declared.refusal.Refusal.{Refusal}
 use Rattle.request_meaning.specs.declared.refusal.Refusal.TheVariants.{NoRoute, WrongMethod, Unbuilt, NoTenant, Encoded, Ingest, Push}
@@ -26,26 +24,8 @@ use Rattle.request_meaning.specs.declared.refusal.Refusal.TheVariants.{NoRoute, 
 abbrev pub refusing : Status → List ℕ → ℕ → Bool → Reply
 refusing with body now close = record { status = with; text = Json; body = body; allow = None; front = None; now = now; close = close }
 
--- the disk failed, and has counted so many faults
-abbrev pub reply_for_disk : ℕ → ℕ → Bool → Reply
-reply_for_disk count = refusing status.ServiceUnavailable (disk_body count)
-
--- the index has so many records, and room for no more
-abbrev pub reply_for_full : ℕ → ℕ → Bool → Reply
-reply_for_full records = refusing status.InsufficientStorage (full_body records)
-
--- what was read can't be of the history
-abbrev pub reply_for_damaged : ℕ → Bool → Reply
-reply_for_damaged = refusing status.InternalServerError (named_body (codes "damaged"))
-
 abbrev pub reply_for_memory : ℕ → Bool → Reply
 reply_for_memory = refusing status.InternalServerError (named_body (codes "memory"))
-
--- a history wasn't read to its end
-abbrev pub reply_for_unread : ReadingFault → ℕ → Bool → Reply
-reply_for_unread unread.Memory now close = reply_for_memory now close
-reply_for_unread (unread.Disk count) now close = reply_for_disk count now close
-reply_for_unread unread.Damaged now close = reply_for_damaged now close
 
 -- compressed bytes are of an unsupported type, and a push that weighs too much or has too many profiles is too large
 abbrev pub folded_status : FoldedFault → Status

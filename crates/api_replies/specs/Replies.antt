@@ -1,8 +1,6 @@
 -- The replies, down to their bodies.
-use Rattle.std.specs.Prelude.{◌≡◌, ◌⊎◌, ◌≤◌, ℕ, Bool, List, [], nat_le, codes, Result, Ok, Err, Some, None, if◌then◌else◌}
-use mathlib.Core.List.{IsPrefix}
-use Rattle.disk_trait.specs.Disk.{Rose}
-use Rattle.history_pass.specs.declared.view.Mark.{Mark}
+use Rattle.std.specs.Prelude.{◌≡◌, ◌⊎◌, ◌&&◌, ℕ, Bool, List, [], filter, nat_eq, nat_le, codes, Some, None, if◌then◌else◌}
+use Rattle.std.specs.Cmp.Lexicographic.{pointwise}
 use Rattle.http_session.specs.Asked.{Asked}
 use Rattle.http_session.specs.declared.reply.Reply.{Reply}
 use Rattle.http_session.specs.declared.reply.Status.TheVariants as status
@@ -13,19 +11,17 @@ use Rattle.label_queries.specs.Labels.{label_sets_of, label_names_of, label_valu
 use Rattle.label_queries.specs.Texts.{names_data, series_data}
 use Rattle.profile_model.specs.LabelSets.{Label}
 use Rattle.push_history.specs.History.{front_of, rows_of, sums_of_rows}
+use Rattle.profile_model.specs.ReadKinds.{parts_in}
+use Rattle.profile_model.specs.declared.kind.ProfileType.{ProfileType}
 use Rattle.profile_model.specs.declared.profile.Profile.{Profile}
 use Rattle.profile_model.specs.declared.push.Push.{Push}
-use Rattle.query_merge.specs.Asked.{asked_of}
+use Rattle.selector.specs.Matching.{matches}
 use Rattle.serde_json.specs.Written.{compact_text}
-use Rattle.shared_store.specs.declared.refusal.Refusal.{Refusal as Unsettled}
-use Rattle.shared_store.specs.declared.refusal.Refusal.TheVariants as unsettled
-use Rattle.tenant_books.specs.declared.verdict.Verdict.{Verdict}
-use Rattle.tenant_books.specs.declared.verdict.Verdict.TheVariants as verdict
 use Rattle.api_replies.specs.FaultBodies.{ahead_body, limit_body}
 use Rattle.request_meaning.specs.Facts.{Facts}
 use Rattle.request_meaning.specs.Forms.{least_front}
 use Rattle.request_meaning.specs.Meanings.{IsAsk, IsRefused, IsWrite, TakesMemory, part_of}
-use Rattle.api_replies.specs.Refusals.{reply_for_damaged, reply_for_disk, reply_for_full, reply_for_memory, reply_for_refusal}
+use Rattle.api_replies.specs.Refusals.{reply_for_memory, reply_for_refusal}
 use Rattle.api_replies.specs.declared.answered.Answered.{Answered}
 use Rattle.api_replies.specs.declared.answered.Answered.TheVariants as answered
 use Rattle.request_meaning.specs.declared.ask.Ask.{Ask}
@@ -39,6 +35,8 @@ use Rattle.request_meaning.specs.declared.form.PushForm.TheVariants as written
 use Rattle.request_meaning.specs.declared.meaning.Meaning.TheVariants.{Query, Write}
 use Rattle.request_meaning.specs.declared.meaning.Meant.{Meant}
 use Rattle.request_meaning.specs.declared.refusal.Refusal.{Refusal}
+use Rattle.api_replies.specs.declared.verdict.Verdict.{Verdict}
+use Rattle.api_replies.specs.declared.verdict.Verdict.TheVariants as verdict
 
 -- an answer of this kind of text, and the front that it counts
 abbrev pub answering : Text → List ℕ → ℕ → ℕ → Bool → Reply
@@ -64,24 +62,26 @@ abbrev pub reply_for_kept : PushForm → ℕ → ℕ → Bool → Reply
 reply_for_kept form = answering (kept_text form) (kept_body form)
 
 abbrev pub reply_for_verdict : Verdict → PushForm → ℕ → Bool → Reply
-reply_for_verdict (verdict.Kept receipt) form now close = reply_for_kept form receipt.front now close
-reply_for_verdict (verdict.FrontAhead least front) form now close = reply_for_ahead least front now close
+reply_for_verdict (verdict.Kept front) form now close = reply_for_kept form front now close
 reply_for_verdict (verdict.OverLimit kept push limit front) form now close =
     record { status = status.UnprocessableContent; text = Json; body = limit_body push kept limit; allow = None; front = Some front; now = now; close = close }
-
--- the verdict of a push, or why it has none
-abbrev pub reply_for_settled : Result Verdict Unsettled → PushForm → ℕ → Bool → Reply
-reply_for_settled (Ok told) form now close = reply_for_verdict told form now close
-reply_for_settled (Err unsettled.Memory) form now close = reply_for_memory now close
-reply_for_settled (Err (unsettled.Full records)) form now close = reply_for_full records now close
-reply_for_settled (Err (unsettled.Disk count)) form now close = reply_for_disk count now close
+reply_for_verdict (verdict.FrontAhead least front) form now close = reply_for_ahead least front now close
+reply_for_verdict verdict.Memory form now close = reply_for_memory now close
 
 -- ---- renders
+
+-- the five parts are the same
+abbrev pub same_kind : ProfileType → ProfileType → Bool
+same_kind one other = pointwise (pointwise nat_eq) (parts_in one) (parts_in other)
+
+-- the profile has the query's type, and its labels match
+abbrev pub is_matched : RenderAsk → Profile → Bool
+is_matched what profile = same_kind profile.kind what.query.kind && matches what.query.selector profile.labels profile.kind
 
 -- the profiles that a render asks for, over all the tenant's pushes of a history
 abbrev pub asked_rows : List Push → RenderAsk → List Profile
 asked_rows history what =
-    asked_of what.query (rows_of history what.part.tenant (front_of history what.part.tenant) what.part.from_ms what.part.until_ms)
+    filter (is_matched what) (rows_of history what.part.tenant (front_of history what.part.tenant) what.part.from_ms what.part.until_ms)
 
 -- the folded text of what they come to
 abbrev pub rendered : List Push → RenderAsk → List ℕ
@@ -118,46 +118,22 @@ IsReply facts asked history reply =
     ((refusal : Refusal) × IsRefused facts asked refusal × (reply ≡ reply_for_refusal refusal asked.moment asked.close))
     ⊎ ((what : Ask) × IsAsk facts asked what × (reply ≡ reply_to history what (least_front asked) asked.moment asked.close))
 
+-- the reply to a query, or that memory ran out
+abbrev pub IsRepliedTo : List Push → Asked → Ask → ℕ → Reply → Type 0
+IsRepliedTo history asked what least reply =
+    (reply ≡ reply_to history what least asked.moment asked.close) ⊎ (reply ≡ reply_for_memory asked.moment asked.close)
+
+-- what comes of a request that means this
+abbrev pub IsAnsweredAs : List Push → Asked → Meant → Answered → Type 0
+IsAnsweredAs history asked meant (answered.Reply reply) = (what : Ask) × (meant.what ≡ Query what) × IsRepliedTo history asked what meant.least_front reply
+IsAnsweredAs history asked meant (answered.Push form ask) = (meant.what ≡ Write form ask.push) × (ask.asked ≡ meant.least_front)
+
 -- What else may come in place of the reply by definition, and keeps nothing: that memory ran out, once memory is
 -- taken for the request.
 abbrev pub IsExcused : Facts → Asked → Reply → Type 0
 IsExcused facts asked reply = TakesMemory facts asked × (reply ≡ reply_for_memory asked.moment asked.close)
 
--- ---- along a pass
-
--- where it holds that the disk tells, the reply to a query is over a list between these two
-abbrev pub IsTold : Type 0 → List Push → List Push → Asked → Ask → ℕ → Reply → Type 0
-IsTold tells old new asked what least reply =
-    tells → (list : List Push) × IsPrefix old list × IsPrefix list new × (reply ≡ reply_to list what least asked.moment asked.close)
-
--- the disk failed, and came to this count from one of these to the other
-abbrev pub IsDiskReply : Asked → ℕ → ℕ → Reply → Type 0
-IsDiskReply asked from to reply = (count : ℕ) × Rose from count × (count ≤ to) × (reply ≡ reply_for_disk count asked.moment asked.close)
-
--- a history wasn't read to its end: the disk failed; or, where it isn't known to tell, what was read can't be of a history
-abbrev pub IsUnreadReply : Type 0 → Asked → ℕ → ℕ → Reply → Type 0
-IsUnreadReply tells asked from to reply = IsDiskReply asked from to reply ⊎ ((¬ tells) × (reply ≡ reply_for_damaged asked.moment asked.close))
-
--- what may come in place of the reply to a query, while the disk's count of faults goes from one number to the other
-abbrev pub IsUnread : Type 0 → Facts → Asked → ℕ → ℕ → Reply → Type 0
-IsUnread tells facts asked from to reply = (what : Ask) × IsAsk facts asked what × IsUnreadReply tells asked from to reply
-
--- the reply to a query from one mark to another, or what comes in its place
-abbrev pub IsRepliedTo : Type 0 → Mark → Mark → Asked → Ask → ℕ → Reply → Type 0
-IsRepliedTo tells old new asked what least reply =
-    IsTold tells old.list new.list asked what least reply
-    ⊎ ((reply ≡ reply_for_memory asked.moment asked.close) ⊎ IsUnreadReply tells asked old.faults new.faults reply)
-
--- what comes of a request that means this
-abbrev pub IsAnsweredAs : Type 0 → Mark → Mark → Asked → Meant → Answered → Type 0
-IsAnsweredAs tells old new asked meant (answered.Reply reply) = (what : Ask) × (meant.what ≡ Query what) × IsRepliedTo tells old new asked what meant.least_front reply
-IsAnsweredAs tells old new asked meant (answered.Push form ask) = (meant.what ≡ Write form ask.push) × (ask.asked ≡ meant.least_front)
-
--- What is answered along a pass that had one mark and has the other then: the first refusal, the reply to a query, or what else may
--- come; or the write that the request is, with how many pushes its tenant must have.
-abbrev pub IsAnswered : Type 0 → Facts → Asked → Mark → Mark → Answered → Type 0
-IsAnswered tells facts asked old new (answered.Reply reply) =
-    ((refusal : Refusal) × IsRefused facts asked refusal × (reply ≡ reply_for_refusal refusal asked.moment asked.close))
-    ⊎ (((what : Ask) × IsAsk facts asked what × IsTold tells old.list new.list asked what (least_front asked) reply)
-    ⊎ (IsExcused facts asked reply ⊎ IsUnread tells facts asked old.faults new.faults reply))
-IsAnswered tells facts asked old new (answered.Push form ask) = IsWrite facts asked form ask.push × (ask.asked ≡ least_front asked)
+-- what is answered: the reply, or what else may come; or the write that the request is, with how many pushes its tenant must have
+abbrev pub IsAnswered : Facts → Asked → List Push → Answered → Type 0
+IsAnswered facts asked history (answered.Reply reply) = IsReply facts asked history reply ⊎ IsExcused facts asked reply
+IsAnswered facts asked history (answered.Push form ask) = IsWrite facts asked form ask.push × (ask.asked ≡ least_front asked)

@@ -1,17 +1,17 @@
-// The reply to a request over a history that is read along a pass, or the write that it asks for.
+// The reply to a request over a history, or the write that it asks for.
 ghost use Rattle.std.specs.Prelude.{◌≡◌};
-ghost use Rattle.history_pass.specs.Marks.{Below};
+ghost use Rattle.push_history.specs.History.{HasBoundedTotals};
 ghost use Rattle.request_meaning.specs.Facts.{facts_of};
-ghost use Rattle.shared_store.specs.Cursors.{IsOwn};
-ghost use Rattle.api_replies.specs.Replies.{IsAnswered, IsAnsweredAs, answering};
+ghost use Rattle.api_replies.specs.Replies.{IsAnswered, IsAnsweredAs, IsRepliedTo, answering};
 
-use crate::query::{Watch, answer_query};
-use crate::refusal::{memory_reply, refusal_reply};
+use crate::labels::listed_text;
+use crate::refusal::{ahead_reply, memory_reply, refusal_reply};
+use crate::render::folded_text;
 use faults::Refused;
-use history_pass::Pass;
 use http_session::{Body, Reply, Request, Status, Text};
-use request_meaning::{Config, Meaning, Meant, PushForm, meaning_of};
-use shared_store::{Gate, Names, Profiles};
+use profile_model::Push;
+use push_history::front;
+use request_meaning::{Ask, Config, Meaning, Meant, PushForm, meaning_of};
 use std::alloc::Global;
 use tenant_books::PushAsk;
 
@@ -23,27 +23,13 @@ pub enum Answered {
     Push(PushForm, PushAsk),
 }
 
-/// The reply to a request, over the history that the pass meets, or its push. The gate is called, with the connection's number,
-/// behind each part that a query reads.
-pub fn answer<J: Names, P: Profiles<J>, G: Gate>(
-    alloc: Global,
-    request: &Request,
-    profiles: &mut P,
-    pass: &mut Pass<J>,
-    config: &Config,
-    gate: &G,
-    connection: u64,
-) -> Answered
-    ensures answer { IsAnswered J.run.tells (facts_of config.now) request.now pass.old pass.new result }
-    ensures below { Below pass.old pass.new }
-    ensures alone { P.alone profiles.new ≡ P.alone profiles.old }
-    ensures own { IsOwn (P.alone profiles.old) pass.old.list → IsOwn (P.alone profiles.old) pass.new.list }
+/// The reply to a request over the pushes that were accepted before it, or its push.
+pub fn answer(alloc: Global, request: &Request, history: &[Push], config: &Config) -> Answered
+    requires { HasBoundedTotals history.now }
+    ensures answer { IsAnswered (facts_of config.now) request.now history.now result }
 {
     match meaning_of(alloc, request, config) {
-        Ok(meant) => {
-            let watch = Watch { gate, connection };
-            answer_meant(alloc, request, profiles, pass, meant, &watch)
-        }
+        Ok(meant) => answer_meant(alloc, request, history, meant),
         Err(Refused::Fault(refusal)) => {
             Answered::Reply(refusal_reply(refusal, request.moment(), request.close()))
         }
@@ -51,18 +37,9 @@ pub fn answer<J: Names, P: Profiles<J>, G: Gate>(
     }
 }
 
-fn answer_meant<J: Names, P: Profiles<J>, G: Gate>(
-    alloc: Global,
-    request: &Request,
-    profiles: &mut P,
-    pass: &mut Pass<J>,
-    meant: Meant,
-    watch: &Watch<G>,
-) -> Answered
-    ensures answer { IsAnsweredAs J.run.tells pass.old pass.new request.now meant result }
-    ensures below { Below pass.old pass.new }
-    ensures alone { P.alone profiles.new ≡ P.alone profiles.old }
-    ensures own { IsOwn (P.alone profiles.old) pass.old.list → IsOwn (P.alone profiles.old) pass.new.list }
+fn answer_meant(alloc: Global, request: &Request, history: &[Push], meant: Meant) -> Answered
+    requires { HasBoundedTotals history.now }
+    ensures { IsAnsweredAs history.now request.now meant result }
 {
     let Meant { what, least_front } = meant;
     match what {
@@ -70,15 +47,37 @@ fn answer_meant<J: Names, P: Profiles<J>, G: Gate>(
             let asked = least_front;
             Answered::Push(form, PushAsk { push, asked })
         }
-        Meaning::Query(ask) => Answered::Reply(answer_query(
-            alloc,
-            request,
-            profiles,
-            pass,
-            ask,
-            least_front,
-            watch,
-        )),
+        Meaning::Query(ask) => {
+            Answered::Reply(answer_query(alloc, request, history, ask, least_front))
+        }
+    }
+}
+
+// The answer to a query, where its tenant has as many pushes as it asks for.
+fn answer_query(
+    alloc: Global,
+    request: &Request,
+    history: &[Push],
+    ask: Ask,
+    least_front: u64,
+) -> Reply
+    requires { HasBoundedTotals history.now }
+    ensures { IsRepliedTo history.now request.now ask least_front result }
+{
+    let (now, close) = (request.moment(), request.close());
+    let front = front(history, &ask.part().tenant);
+    if front < least_front {
+        return ahead_reply(least_front, front, now, close);
+    }
+    match ask {
+        Ask::Render(mut ask) => match folded_text(alloc, history, &mut ask) {
+            Ok(text) => answering(Text::Plain, Body::from_vec(text), front, now, close),
+            Err(_) => memory_reply(now, close),
+        },
+        Ask::Labels(ask) => match listed_text(alloc, history, ask) {
+            Ok(text) => answering(Text::Json, Body::from_vec(text), front, now, close),
+            Err(_) => memory_reply(now, close),
+        },
     }
 }
 

@@ -1,6 +1,6 @@
 // The bodies of refusals: compact JSON, keys ascending. They take no memory.
 ghost use Rattle.std.specs.Prelude.{◌≡◌, ◌+◌, ◌*◌, ◌≤◌, ◌++◌, length, decimal};
-ghost use Rattle.api_replies.specs.FaultBodies.{ahead_body, disk_body, full_body, limit_body, named_body, placed_body, place_text};
+ghost use Rattle.api_replies.specs.FaultBodies.{ahead_body, limit_body, named_body, placed_body, place_text};
 
 use arrayvec::ArrayString;
 use http_session::Body;
@@ -67,28 +67,6 @@ fn append_number(text: &mut ArrayString<ROOM>, number: u64)
     ensures room { length text.new.bytes ≤ length text.old.bytes + 20 }
 {
     append(text, Buffer::new().format(number));
-}
-
-/// `{"fault":"disk","faults":COUNT}`
-pub(crate) fn disk_failed(count: u64) -> Body
-    ensures { result ≡ disk_body count }
-{
-    let mut text = ArrayString::<ROOM>::new();
-    append(&mut text, "{\"fault\":\"disk\",\"faults\":");
-    append_number(&mut text, count);
-    append(&mut text, "}");
-    Body::kept(text.as_str().as_bytes())
-}
-
-/// `{"fault":"full","records":RECORDS}`
-pub(crate) fn index_full(records: u64) -> Body
-    ensures { result ≡ full_body records }
-{
-    let mut text = ArrayString::<ROOM>::new();
-    append(&mut text, "{\"fault\":\"full\",\"records\":");
-    append_number(&mut text, records);
-    append(&mut text, "}");
-    Body::kept(text.as_str().as_bytes())
 }
 
 /// `{"asked":ASKED,"fault":"front","front":FRONT}`

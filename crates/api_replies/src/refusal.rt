@@ -2,16 +2,15 @@
 ghost use Rattle.std.specs.Prelude.{◌≡◌, ◌≤◌, length, option_map};
 ghost use Rattle.faults.specs.Places.{numbers_of};
 ghost use Rattle.api_replies.specs.Replies.{reply_for_ahead};
-ghost use Rattle.api_replies.specs.Refusals.{allow_of, body_of, folded_status, ingest_status, last_reply, pprof_status, push_status, refusing, reply_for_disk, reply_for_full, reply_for_memory, reply_for_refusal, reply_for_unread, status_of};
+ghost use Rattle.api_replies.specs.Refusals.{allow_of, body_of, folded_status, ingest_status, last_reply, pprof_status, push_status, refusing, reply_for_memory, reply_for_refusal, status_of};
 
-use crate::fault_body::{disk_failed, front_ahead, index_full, named, placed};
+use crate::fault_body::{front_ahead, named, placed};
 use faults::Place;
 use folded_reader::FoldedFault;
 use http_session::{Allow, BadRequest, Body, Reply, Status, Text};
 use ingest::IngestFault;
 use json_push::PushFault;
 use pprof_codec::PprofFault;
-use query_reading::ReadingFault;
 use request_meaning::Refusal;
 
 /// The reply to a request that is refused.
@@ -34,31 +33,6 @@ pub fn memory_reply(now: u64, close: bool) -> Reply
     ensures { result ≡ reply_for_memory now close }
 {
     refused(Status::InternalServerError, named("memory"), now, close)
-}
-
-/// The reply where the disk failed, and has counted so many faults.
-pub(crate) fn disk_reply(count: u64, now: u64, close: bool) -> Reply
-    ensures { result ≡ reply_for_disk count now close }
-{
-    refused(Status::ServiceUnavailable, disk_failed(count), now, close)
-}
-
-/// The reply where the index has room for no more than these records.
-pub(crate) fn full_reply(records: u64, now: u64, close: bool) -> Reply
-    ensures { result ≡ reply_for_full records now close }
-{
-    refused(Status::InsufficientStorage, index_full(records), now, close)
-}
-
-/// The reply where a history wasn't read to its end.
-pub(crate) fn unread_reply(fault: ReadingFault, now: u64, close: bool) -> Reply
-    ensures { result ≡ reply_for_unread fault now close }
-{
-    match fault {
-        ReadingFault::Memory => memory_reply(now, close),
-        ReadingFault::Disk(count) => disk_reply(count, now, close),
-        ReadingFault::Damaged => refused(Status::InternalServerError, named("damaged"), now, close),
-    }
 }
 
 /// The reply to a request that asks for more pushes of its tenant than there are.

@@ -1,38 +1,40 @@
 // The reply to a write, once its fate is settled.
 ghost use Rattle.std.specs.Prelude.{◌≡◌};
-ghost use Rattle.api_replies.specs.Replies.{reply_for_kept, reply_for_settled, reply_for_verdict};
+ghost use Rattle.api_replies.specs.Replies.{reply_for_kept, reply_for_verdict};
 
 use crate::answered::answering;
 use crate::fault_body::over_limit;
-use crate::refusal::{ahead_reply, disk_reply, full_reply, memory_reply};
+use crate::refusal::{ahead_reply, memory_reply};
 use http_session::{Body, Reply, Status, Text};
 use request_meaning::PushForm;
-use shared_store::Refusal;
-use tenant_books::Verdict;
 
-/// The reply that tells what became of a push. It takes no memory.
-pub fn acknowledge(
-    settled: &Result<Verdict, Refusal>,
-    form: PushForm,
-    now: u64,
-    close: bool,
-) -> Reply
-    ensures { result ≡ reply_for_settled settled.now form now close }
-{
-    match settled {
-        Ok(verdict) => verdict_reply(verdict, form, now, close),
-        Err(Refusal::Memory) => memory_reply(now, close),
-        Err(Refusal::Full(records)) => full_reply(*records, now, close),
-        Err(Refusal::Disk(count)) => disk_reply(*count, now, close),
-    }
+/// What became of a push.
+#[derive(Clone, Copy, Debug, PartialEq, Eq)]
+pub enum Verdict {
+    /// It was kept as the last of so many pushes of its tenant.
+    Kept(u64),
+    /// The tenant has fewer pushes than were asked for.
+    FrontAhead {
+        asked: u64,
+        front: u64,
+    },
+    /// The tenant's total and the push's would pass the tenant's limit.
+    OverLimit {
+        kept: u128,
+        push: u128,
+        limit: u64,
+        /// How many pushes of the tenant there are.
+        front: u64,
+    },
+    Memory,
 }
 
-fn verdict_reply(verdict: &Verdict, form: PushForm, now: u64, close: bool) -> Reply
-    ensures { result ≡ reply_for_verdict verdict.now form now close }
+/// The reply that tells a verdict. It takes no memory.
+pub fn acknowledge(verdict: Verdict, form: PushForm, now: u64, close: bool) -> Reply
+    ensures { result ≡ reply_for_verdict verdict form now close }
 {
     match verdict {
-        Verdict::Kept(receipt) => kept_reply(receipt.front(), form, now, close),
-        Verdict::FrontAhead { asked, front } => ahead_reply(*asked, *front, now, close),
+        Verdict::Kept(front) => kept_reply(front, form, now, close),
         Verdict::OverLimit {
             kept,
             push,
@@ -41,12 +43,14 @@ fn verdict_reply(verdict: &Verdict, form: PushForm, now: u64, close: bool) -> Re
         } => Reply {
             status: Status::UnprocessableContent,
             text: Text::Json,
-            body: over_limit(*push, *kept, *limit),
+            body: over_limit(push, kept, limit),
             allow: None,
-            front: Some(*front),
+            front: Some(front),
             now,
             close,
         },
+        Verdict::FrontAhead { asked, front } => ahead_reply(asked, front, now, close),
+        Verdict::Memory => memory_reply(now, close),
     }
 }
 

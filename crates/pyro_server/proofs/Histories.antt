@@ -1,5 +1,5 @@
 -- What an exchange and a whole run say of the history, tenant by tenant.
-use Rattle.std.proofs.Common.{◌≡◌, ◌≢◌, ◌+◌, ◌<◌, ◌≤◌, ◌∙◌, ℕ, zero, suc, Bool, true, false, cond, List, [], ◌∷◌, ◌++◌, length, take, refl, sym, ap, subst, inl, inr, arith, append_assoc, length-append}
+use Rattle.std.proofs.Common.{◌≡◌, ◌+◌, ◌<◌, ◌≤◌, ◌∙◌, ℕ, zero, suc, Bool, true, false, cond, List, [], ◌∷◌, ◌++◌, length, take, refl, sym, ap, subst, inl, inr, arith, append_assoc, length-append}
 use Rattle.std.specs.Prelude.{◌⊎◌, filter, Option, Some, None}
 use Rattle.std.proofs.lemmas.List.Elements.{filter-append}
 use Rattle.std.proofs.Math.Seq.{take-append_seam, take-nil}
@@ -9,17 +9,14 @@ use Rattle.push_history.specs.History.{front_of, pushes_of, pushes_total}
 use Rattle.profile_model.specs.declared.push.Push.{Push}
 use Rattle.request_meaning.specs.Facts.{Facts}
 use Rattle.request_meaning.specs.Forms.{least_front, tenant_of}
-use Rattle.request_meaning.specs.Meanings.{IsWrite, TakesMemory}
-use Rattle.request_meaning.specs.declared.form.PushForm.TheVariants as written
+use Rattle.request_meaning.specs.Meanings.{IsWrite}
 use Rattle.api_replies.proofs.ReplyLemmas.{answers_no_write, own_again, reply_alike, shows_its_front, writer_is_named}
 use Rattle.request_meaning.specs.declared.form.PushForm.{PushForm}
-use Rattle.api_replies.specs.Replies.{reply_for_verdict}
-use Rattle.http_session.specs.Asked.{Asked}
-use Rattle.tenant_books.specs.Verdicts.{IsVerdict, with_kept}
-use Rattle.tenant_books.specs.declared.verdict.Verdict.{Verdict}
-use Rattle.tenant_books.specs.declared.verdict.Verdict.TheVariants.{Kept, FrontAhead, OverLimit}
+use Rattle.api_replies.specs.declared.verdict.Verdict.{Verdict}
+use Rattle.api_replies.specs.declared.verdict.Verdict.TheVariants.{Kept, FrontAhead, OverLimit, Memory}
 use Rattle.pyro_server.specs.Given.{Answer}
-use Rattle.pyro_server.specs.Served.{IsExchange, IsHeldUp, ask_of}
+use Rattle.pyro_server.specs.Settled.{IsSettled}
+use Rattle.pyro_server.specs.Served.{IsExchange}
 use Rattle.pyro_server.specs.ServedAt.{IsAcknowledged, IsAnsweredAt, IsAnsweredOver, IsKept, Shows, StandsAt, own_pushes}
 use Rattle.pyro_server.specs.ServedLaws.{AnswersAreIsolated, FrontIsPrefix, RepliesAreIsolated}
 use Rattle.pyro_server.proofs.Growing.{own}
@@ -31,29 +28,26 @@ own_stays : (history : List Push) (named : Option (List ℕ)) (tenant : List ℕ
     → pushes_of history tenant ≡ pushes_of (own_pushes history named) tenant
 own_stays history named tenant is = sym (ap (λ (own : List Push). pushes_of own tenant) (ap (own_pushes history) is) ∙ own_again history tenant)
 
--- a verdict depends on the pushes of its tenant alone, but for its place
-verdict_alike : (limit : List ℕ → ℕ) (history other : List Push) (push : Push) (least : ℕ) (verdict : Verdict) (form : PushForm) → pushes_of history push.tenant ≡ pushes_of other push.tenant
-    → IsVerdict limit history (ask_of push least) verdict
-    → (told : Verdict) × IsVerdict limit other (ask_of push least) told × ((now : ℕ) (close : Bool) → reply_for_verdict verdict form now close ≡ reply_for_verdict told form now close)
-verdict_alike limit history other push least (Kept receipt) form same (enough, room, place, front) = (
-  Kept (record { place = length other; front = receipt.front }),
-  (rw same at enough, rw same at room, refl, rw same at front),
-  λ now close. refl,
-)
-verdict_alike limit history other push least (FrontAhead asked front) form same (ahead, is, told) =
-    (FrontAhead asked front, (rw same at ahead, is, rw same at told), λ now close. refl)
-verdict_alike limit history other push least (OverLimit kept adds shown front) form same (enough, over, kept_is, adds_is, limit_is, told) =
-    (OverLimit kept adds shown front, (rw same at enough, rw same at over, rw same at kept_is, adds_is, limit_is, rw same at told), λ now close. refl)
+-- what becomes of a push depends on the pushes of its tenant alone
+settled_alike : (limit : ℕ) (history other next : List Push) (push : Push) (least : ℕ) (verdict : Verdict) → pushes_of history push.tenant ≡ pushes_of other push.tenant
+    → IsSettled limit history push least verdict next → (left : List Push) × IsSettled limit other push least verdict left
+settled_alike limit history other next push least (Kept front) same (enough, told, room, kept) =
+    (other ++ push ∷ [], (subst (λ (n : ℕ). least ≤ n) (ap (λ (own : List Push). length own) same) enough, told ∙ ap (λ (own : List Push). length own + 1) same, rw same at room, refl))
+settled_alike limit history other next push least (FrontAhead asked front) same (ahead, is, told, stays) =
+    (other, (subst (λ (n : ℕ). n < least) (ap (λ (own : List Push). length own) same) ahead, is, told ∙ ap (λ (own : List Push). length own) same, refl))
+settled_alike limit history other next push least (OverLimit kept adds shown front) same (enough, kept_is, adds_is, limit_is, told, over, stays) =
+    (other, (subst (λ (n : ℕ). least ≤ n) (ap (λ (own : List Push). length own) same) enough, kept_is ∙ ap pushes_total same, adds_is, limit_is, told ∙ ap (λ (own : List Push). length own) same, over, refl))
+settled_alike limit history other next push least Memory same settled = absurd settled
 
 answered_alike : (facts : Facts) (history other : List Push) (one : Answer)
     → ((tenant : List ℕ) → tenant_of facts one.asked ≡ Some tenant → pushes_of history tenant ≡ pushes_of other tenant)
     → IsAnsweredOver facts history one → IsAnsweredOver facts other one
 answered_alike facts history other one same (next, inl (inl (is, stays))) = (other, inl (inl (reply_alike facts one.asked history other one.reply same is, refl)))
-answered_alike facts history other one same (next, inl (inr (form, push, verdict, write, judged, kept, told))) =
+answered_alike facts history other one same (next, inl (inr (form, push, verdict, write, settled, told))) =
     let there =
-    verdict_alike facts.limit history other push (least_front one.asked) verdict form (same push.tenant (writer_is_named facts one.asked form push write)) judged in
-    (with_kept other push there.0, inl (inr (form, push, there.0, write, there.1, refl, told ∙ there.2 one.asked.moment one.asked.close)))
-answered_alike facts history other one same (next, inr (held, stays)) = (other, inr (held, refl))
+    settled_alike (facts.limit push.tenant) history other next push (least_front one.asked) verdict (same push.tenant (writer_is_named facts one.asked form push write)) settled in
+    (there.0, inl (inr (form, push, verdict, write, there.1, told)))
+answered_alike facts history other one same (next, inr (excused, stays)) = (other, inr (excused, refl))
 
 pub replies_are_isolated : RepliesAreIsolated
 replies_are_isolated facts asked history reply =
@@ -128,11 +122,6 @@ front_is_prefix facts history one = (
       let P : List Push → Type 0 = λ pushes. IsAnsweredAt facts pushes one in subst P (sym is) (answered_at facts before after one answered),
 )
 
--- a write is a request for which memory is taken
-pub write_takes_memory : (facts : Facts) (asked : Asked) (form : PushForm) (push : Push) → IsWrite facts asked form push → TakesMemory facts asked
-write_takes_memory facts asked written.Ingest push write = (_, push.tenant, write.0)
-write_takes_memory facts asked written.Json push write = (_, push.tenant, write.0)
-
 -- ---- what one exchange keeps
 
 -- the push that an exchange kept and told so
@@ -141,24 +130,20 @@ Keeps facts history one next =
     (form : PushForm) × (push : Push)
     × IsWrite facts one.asked form push × (one.reply.status ≡ Ok) × (one.reply.front ≡ Some (front_of history push.tenant + 1)) × (next ≡ history ++ push ∷ [])
 
--- what may come in place of a reply shows no front, and isn't 200
-held_refuses : (facts : Facts) (asked : Asked) (reply : Reply) → IsHeldUp facts asked reply → (reply.front ≡ None) × (reply.status ≢ Ok)
-held_refuses facts asked reply (inl (takes, is)) = rw is (refl, λ same. cc)
-held_refuses facts asked reply (inr (inl (takes, (count, is)))) = rw is (refl, λ same. cc)
-held_refuses facts asked reply (inr (inr (form, push, write, is))) = rw is (refl, λ same. cc)
-
 -- an exchange keeps a push and tells it, or acknowledges none and leaves the history
 pub keeps_or_stays : (facts : Facts) (history next : List Push) (one : Answer) → IsExchange facts one.asked history one.reply next
     → Keeps facts history one next ⊎ ((¬ (IsAcknowledged facts one)) × (next ≡ history))
 keeps_or_stays facts history next one (inl (inl (is, stays))) =
     inr (λ (write, ok). answers_no_write facts one.asked history one.reply write.0 write.1 is write.2 ok, stays)
-keeps_or_stays facts history next one (inl (inr (form, push, Kept receipt, write, (enough, room, place, is), kept, told))) =
+keeps_or_stays facts history next one (inl (inr (form, push, Kept front, write, (enough, is, room, kept), told))) =
     inl (form, push, write, ap (λ (r : Reply). r.status) told, ap (λ (r : Reply). r.front) told ∙ ap (λ n. Some n) is, kept)
-keeps_or_stays facts history next one (inl (inr (form, push, FrontAhead asked front, write, judged, kept, told))) =
-    inr (λ (write, ok). (let is = ap (λ (r : Reply). r.status) told in cc), kept)
-keeps_or_stays facts history next one (inl (inr (form, push, OverLimit held adds limit front, write, judged, kept, told))) =
-    inr (λ (write, ok). (let is = ap (λ (r : Reply). r.status) told in cc), kept)
-keeps_or_stays facts history next one (inr (held, stays)) = inr (λ (write, ok). (held_refuses facts one.asked one.reply held).1 ok, stays)
+keeps_or_stays facts history next one (inl (inr (form, push, FrontAhead asked front, write, settled, told))) =
+    inr (λ (write, ok). (let is = ap (λ (r : Reply). r.status) told in cc), settled.3)
+keeps_or_stays facts history next one (inl (inr (form, push, OverLimit kept adds limit front, write, settled, told))) =
+    inr (λ (write, ok). (let is = ap (λ (r : Reply). r.status) told in cc), settled.6)
+keeps_or_stays facts history next one (inl (inr (form, push, Memory, write, settled, told))) = absurd settled
+keeps_or_stays facts history next one (inr ((reaches, told), stays)) =
+    inr (λ (write, ok). (let is = ap (λ (r : Reply). r.status) told in cc), stays)
 
 -- a push that was told as kept stands in every later history, behind a base of the one before
 pub kept_stands : (facts : Facts) (base middle next later : List Push) (one : Answer) → IsExchange facts one.asked (base ++ middle) one.reply next
@@ -213,27 +198,25 @@ between_fronts facts history next one tenant front (inl (inl (is, stays))) (name
     let told : front ≡ front_of history tenant = own_one.2 ∙ ap (front_of history) same in
     let left : front_of next tenant ≡ front_of history tenant = ap (λ (pushes : List Push). front_of pushes tenant) stays in
     (omega arith, λ (write, ok). absurd (answers_no_write facts one.asked history one.reply write.0 write.1 is write.2 ok), omega arith)
-between_fronts facts history next one tenant front (inl (inr (form, push, Kept receipt, write, (enough, room, place, is), kept, told))) (named, shown) =
+between_fronts facts history next one tenant front (inl (inr (form, push, Kept kept_front, write, (enough, is, room, kept), told))) (named, shown) =
     let same = one_name push.tenant tenant (tenant_of facts one.asked) (writer_is_named facts one.asked form push write) named in
-    let fronts = one_front receipt.front front one.reply.front (ap (λ (r : Reply). r.front) told) shown in
+    let fronts = one_front kept_front front one.reply.front (ap (λ (r : Reply). r.front) told) shown in
     let before : front_of history push.tenant ≡ front_of history tenant = ap (front_of history) same in
     let after : front_of next tenant ≡ front_of history push.tenant + 1 =
     ap (front_of next) (sym same) ∙ ap (λ (pushes : List Push). front_of pushes push.tenant) kept ∙ front_with history push in
     (omega arith, λ acknowledged. omega arith, omega arith)
-between_fronts facts history next one tenant front (inl (inr (form, push, FrontAhead asked old_front, write, (ahead, asked_is, is), stays, told))) (named, shown) =
+between_fronts facts history next one tenant front (inl (inr (form, push, FrontAhead asked old_front, write, (ahead, asked_is, is, stays), told))) (named, shown) =
     let same = one_name push.tenant tenant (tenant_of facts one.asked) (writer_is_named facts one.asked form push write) named in
     let fronts = one_front old_front front one.reply.front (ap (λ (r : Reply). r.front) told) shown in
     let before : front_of history push.tenant ≡ front_of history tenant = ap (front_of history) same in
     let left : front_of next tenant ≡ front_of history tenant = ap (λ (pushes : List Push). front_of pushes tenant) stays in
     (omega arith, λ (other, ok). (let status = ap (λ (r : Reply). r.status) told in cc), omega arith)
-between_fronts facts history next one tenant front (inl (inr (form, push, OverLimit held adds limit old_front, write, (enough, over, kept_is, adds_is, limit_is, is), stays, told))) (named, shown) =
+between_fronts facts history next one tenant front (inl (inr (form, push, OverLimit kept adds limit old_front, write, (enough, kept_is, adds_is, limit_is, is, over, stays), told))) (named, shown) =
     let same = one_name push.tenant tenant (tenant_of facts one.asked) (writer_is_named facts one.asked form push write) named in
     let fronts = one_front old_front front one.reply.front (ap (λ (r : Reply). r.front) told) shown in
     let before : front_of history push.tenant ≡ front_of history tenant = ap (front_of history) same in
     let left : front_of next tenant ≡ front_of history tenant = ap (λ (pushes : List Push). front_of pushes tenant) stays in
     (omega arith, λ (other, ok). (let status = ap (λ (r : Reply). r.status) told in cc), omega arith)
-between_fronts facts history next one tenant front (inr (held, stays)) (named, shown) =
-    let none = (held_refuses facts one.asked one.reply held).0 in absurd (none_shown front (sym shown ∙ none))
-  where
-    none_shown : (n : ℕ) → ◌≡◌ {A = Option ℕ} (Some n) None → ⊥
-    none_shown n is = cc
+between_fronts facts history next one tenant front (inl (inr (form, push, Memory, write, settled, told))) (named, shown) = absurd settled
+between_fronts facts history next one tenant front (inr ((reaches, told), stays)) (named, shown) =
+    let none = ap (λ (r : Reply). r.front) told in cc

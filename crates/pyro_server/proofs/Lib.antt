@@ -5,5 +5,3 @@ pub mod Histories
 pub mod ServingAt
 pub mod ServedRows
 pub mod Input
-pub mod AloneLemmas
-pub mod OpenedLemmas

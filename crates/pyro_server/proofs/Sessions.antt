@@ -10,9 +10,10 @@ use Rattle.http_session.specs.Reply.{bytes_of_reply}
 use Rattle.http_session.specs.Takes.{IsWhole, AreRequests, is_closed}
 use Rattle.http_session.specs.Progress.{Progress}
 use Rattle.http_session.proofs.RequestsLemmas.{closed_last, requests_stay, requests_then}
+use Rattle.profile_model.specs.declared.push.Push.{Push}
 use Rattle.request_meaning.specs.Facts.{Facts}
 use Rattle.pyro_server.specs.Given.{Answer, EndsSo, Gives, IsEnded, IsOpen, requests_of, replies_of, last_bytes}
-use Rattle.pyro_server.specs.Served.{InTurnAlone, IsServedInTurn, IsTurn, Turn, World, answers_in}
+use Rattle.pyro_server.specs.Served.{Exchange, InTurn, IsExchange, IsServedInTurn, answers_of}
 use Rattle.pyro_server.specs.Steps.{GivesNoMore, ServesStep, SoFar}
 use Rattle.pyro_server.specs.declared.session.Step.TheVariants.{Replied, Over}
 use Rattle.pyro_server.specs.declared.ending.Ending.{Ending}
@@ -41,41 +42,41 @@ replies_then answers one =
     flat_map-append (λ (a : Answer). bytes_of_reply a.reply) answers (one ∷ [])
     ∙ ap (λ (last : List ℕ). replies_of answers ++ last) (append-nil (bytes_of_reply one.reply))
 
-pub in_turn_then : (told : Type 0) (facts : Facts) (first : World) (turns : List Turn) (middle : World) (one : Turn) → InTurnAlone told facts first turns middle
-    → (told → IsTurn facts middle one.answer.asked one.answer.reply one.next) → InTurnAlone told facts first (turns ++ one ∷ []) one.next
-in_turn_then told facts first [] middle one same turn =
-    let P : World → Type 0 = λ world. told → IsTurn facts world one.answer.asked one.answer.reply one.next in (subst P same turn, refl)
-in_turn_then told facts first (next ∷ more) middle one (turned, turns) turn = (turned, in_turn_then told facts next.next more middle one turns turn)
+pub in_turn_then : (facts : Facts) (history : List Push) (exchanges : List Exchange) (middle : List Push) (one : Exchange) → InTurn facts history exchanges middle
+    → IsExchange facts one.answer.asked middle one.answer.reply one.next → InTurn facts history (exchanges ++ one ∷ []) one.next
+in_turn_then facts history [] middle one same exchange =
+    let P : List Push → Type 0 = λ pushes. IsExchange facts one.answer.asked pushes one.answer.reply one.next in (subst P same exchange, refl)
+in_turn_then facts history (first ∷ more) middle one (exchanged, turn) exchange = (exchanged, in_turn_then facts first.next more middle one turn exchange)
 
 -- ---- the session
 
 -- before the first request nothing was taken
-pub at_first : (told : Type 0) (facts : Facts) (first : World) (reader : Progress) → reader.held ≡ [] → reader.given ≡ 0
-    → (a : Told) → SoFar told facts first reader first a a
-at_first told facts first reader held given a = (
+pub at_first : (facts : Facts) (reader : Progress) (history : List Push) → reader.held ≡ [] → reader.given ≡ 0 → history ≡ []
+    → (a : Told) → SoFar facts reader history a a
+at_first facts reader history held given none a = (
   [],
   record { took = []; gave = []; passed = passed_nothing a; answered = record { requests = held; replies = refl }; unclosed = refl },
   sym given,
-  refl,
+  none,
 )
 
-module _ (told : Type 0) (facts : Facts) (first : World) (old new : Progress) (one next : World) (before between now : Told) where
+module _ (facts : Facts) (old new : Progress) (history next : List Push) (before between now : Told) where
   -- as many requests were answered as the reader gave
-  many : (exchanges : List Turn) → length exchanges ≡ old.given → length (requests_of (answers_in exchanges)) ≡ old.given
-  many exchanges count = length-map (answers_in exchanges) (λ (a : Answer). a.asked) ∙ length-map exchanges (λ (e : Turn). e.answer) ∙ count
+  many : (exchanges : List Exchange) → length exchanges ≡ old.given → length (requests_of (answers_of exchanges)) ≡ old.given
+  many exchanges count = length-map (answers_of exchanges) (λ (a : Answer). a.asked) ∙ length-map exchanges (λ (e : Exchange). e.answer) ∙ count
 
   -- the requests that were answered, with one more behind them
-  requests_with : (far : SoFar told facts first old one before between) (piece rest : List ℕ) (one : Answer)
+  requests_with : (far : SoFar facts old history before between) (piece rest : List ℕ) (one : Answer)
       → IsWhole (old.given + 1) between.moment (old.held ++ piece) one.asked rest
-      → AreRequests 1 before.moment (far.1.took ++ piece) (requests_of (answers_in far.0 ++ one ∷ [])) rest
+      → AreRequests 1 before.moment (far.1.took ++ piece) (requests_of (answers_of far.0 ++ one ∷ [])) rest
   requests_with (exchanges, open_, count, turn) piece rest one whole =
-      let requests = requests_of (answers_in exchanges) in
+      let requests = requests_of (answers_of exchanges) in
       let long : length requests ≡ old.given = many exchanges count in
       let number : old.given + 1 ≡ 1 + length requests = omega arith in
       let N : ℕ → Type 0 = λ n. IsWhole n between.moment (old.held ++ piece) one.asked rest in
       let M : ℕ → Type 0 = λ m. IsWhole (1 + length requests) m (old.held ++ piece) one.asked rest in
       let R : List Asked → Type 0 = λ asked. AreRequests 1 before.moment (open_.took ++ piece) asked rest in
-      subst R (sym (map_then (λ (a : Answer). a.asked) (answers_in exchanges) one))
+      subst R (sym (map_then (λ (a : Answer). a.asked) (answers_of exchanges) one))
       (requests_then 1 before.moment (open_.took ++ piece) requests (old.held ++ piece) one.asked rest
       (requests_stay 1 before.moment open_.took requests old.held piece open_.answered.requests) open_.unclosed
       (subst M open_.passed.moment (subst N number whole)))
@@ -90,48 +91,48 @@ module _ (told : Type 0) (facts : Facts) (first : World) (old new : Progress) (o
   gave_with answers one gave is = ap (λ (front : List ℕ). front ++ bytes_of_reply one.reply) is ∙ sym (replies_then answers one)
 
   -- one request more was answered
-  pub one_more : new.given ≡ old.given + 1 → SoFar told facts first old one before between → ServesStep told facts old new one next (Replied false) between now
-      → SoFar told facts first new next before now
+  pub one_more : new.given ≡ old.given + 1 → SoFar facts old history before between → ServesStep facts old new history next (Replied false) between now
+      → SoFar facts new next before now
   one_more number (exchanges, open_, count, turn) (piece, asked, reply, passed, whole, exchange, unclosed) =
       let answer : Answer = record { asked = asked; reply = reply } in
-      let last : Turn = record { answer = answer; next = next } in
-      let are : answers_in (exchanges ++ last ∷ []) ≡ answers_in exchanges ++ answer ∷ [] = map_then (λ (e : Turn). e.answer) exchanges last in
+      let one : Exchange = record { answer = answer; next = next } in
+      let are : answers_of (exchanges ++ one ∷ []) ≡ answers_of exchanges ++ answer ∷ [] = map_then (λ (e : Exchange). e.answer) exchanges one in
       let N : ℕ → Type 0 = λ n. IsWhole n between.moment (old.held ++ piece) asked new.held in
       let O : List Answer → Type 0 = λ answers. IsOpen answers new.held before now in
-      let long = length-append exchanges (last ∷ []) in
-      let opened : IsOpen (answers_in exchanges ++ answer ∷ []) new.held before now = record {
+      let long = length-append exchanges (one ∷ []) in
+      let opened : IsOpen (answers_of exchanges ++ answer ∷ []) new.held before now = record {
         took = open_.took ++ piece;
         gave = open_.gave ++ bytes_of_reply reply;
         passed = passed_then open_.took piece open_.gave (bytes_of_reply reply) before between now open_.passed passed;
         answered = record {
           requests = requests_with (exchanges, open_, count, turn) piece new.held answer (subst N number whole);
-          replies = gave_with (answers_in exchanges) answer open_.gave open_.answered.replies;
+          replies = gave_with (answers_of exchanges) answer open_.gave open_.answered.replies;
         };
-        unclosed = closed_with (answers_in exchanges) answer false unclosed;
+        unclosed = closed_with (answers_of exchanges) answer false unclosed;
       } in (
-        exchanges ++ last ∷ [],
+        exchanges ++ one ∷ [],
         subst O (sym are) opened,
         omega arith,
-        in_turn_then told facts first exchanges one last turn exchange,
+        in_turn_then facts [] exchanges history one turn exchange,
       )
 
   -- the last request was answered
   pub closed : (close : Bool) (ending : Ending) → new.given ≡ old.given + 1
       → ((requests : List Asked) (rest : List ℕ) → is_closed requests ≡ true → length requests ≡ old.given + 1 → EndsSo requests rest now.to_come ending)
       → ((moment : ℕ) → last_bytes ending moment ≡ [])
-      → SoFar told facts first old one before between → ServesStep told facts old new one next (Replied close) between now
+      → SoFar facts old history before between → ServesStep facts old new history next (Replied close) between now
       → ((asked : Asked) (moment : ℕ) (bytes rest : List ℕ) → IsWhole (old.given + 1) moment bytes asked rest → asked.close ≡ close → asked.close ≡ true)
-      → IsServedInTurn told facts first next ending before now
+      → IsServedInTurn facts next ending before now
   closed close ending number ends silent (exchanges, open_, count, turn) (piece, asked, reply, passed, whole, exchange, same) closes =
       let answer : Answer = record { asked = asked; reply = reply } in
-      let last : Turn = record { answer = answer; next = next } in
-      let are : answers_in (exchanges ++ last ∷ []) ≡ answers_in exchanges ++ answer ∷ [] = map_then (λ (e : Turn). e.answer) exchanges last in
+      let one : Exchange = record { answer = answer; next = next } in
+      let are : answers_of (exchanges ++ one ∷ []) ≡ answers_of exchanges ++ answer ∷ [] = map_then (λ (e : Exchange). e.answer) exchanges one in
       let N : ℕ → Type 0 = λ n. IsWhole n between.moment (old.held ++ piece) asked new.held in
       let here : IsWhole (old.given + 1) between.moment (old.held ++ piece) asked new.held = subst N number whole in
       let asks : asked.close ≡ true = closes asked between.moment (old.held ++ piece) new.held here same in
-      let all = answers_in exchanges ++ answer ∷ [] in
+      let all = answers_of exchanges ++ answer ∷ [] in
       let long : length (requests_of all) ≡ old.given + 1 =
-      length-map all (λ (a : Answer). a.asked) ∙ length-append (answers_in exchanges) (answer ∷ []) ∙ ap (λ n. n + 1) (length-map exchanges (λ (e : Turn). e.answer) ∙ count) in
+      length-map all (λ (a : Answer). a.asked) ∙ length-append (answers_of exchanges) (answer ∷ []) ∙ ap (λ n. n + 1) (length-map exchanges (λ (e : Exchange). e.answer) ∙ count) in
       let E : List Answer → Type 0 = λ answers. IsEnded answers ending before now in
       let ended_ : IsEnded all ending before now = record {
         took = open_.took ++ piece;
@@ -140,30 +141,30 @@ module _ (told : Type 0) (facts : Facts) (first : World) (old new : Progress) (o
         gives = inl record {
           rest = new.held;
           requests = requests_with (exchanges, open_, count, turn) piece new.held answer here;
-          ends = ends (requests_of all) new.held (closed_with (answers_in exchanges) answer true asks) long;
-          given = gave_with (answers_in exchanges) answer open_.gave open_.answered.replies ∙ sym (append-nil (replies_of all))
+          ends = ends (requests_of all) new.held (closed_with (answers_of exchanges) answer true asks) long;
+          given = gave_with (answers_of exchanges) answer open_.gave open_.answered.replies ∙ sym (append-nil (replies_of all))
               ∙ ap (λ (last : List ℕ). replies_of all ++ last) (sym (silent before.moment));
         };
-      } in (exchanges ++ last ∷ [], subst E (sym are) ended_, in_turn_then told facts first exchanges one last turn exchange)
+      } in (exchanges ++ one ∷ [], subst E (sym are) ended_, in_turn_then facts [] exchanges history one turn exchange)
 
   -- no further request was answered
-  over_plainly : (ending : Ending) (far : SoFar told facts first old one before between) (piece gave : List ℕ) → Passed piece gave between now
+  over_plainly : (ending : Ending) (far : SoFar facts old history before between) (piece gave : List ℕ) → Passed piece gave between now
       → GivesNoMore old.given between.moment (old.held ++ piece) now.to_come gave ending
-      → Gives before.moment (far.1.took ++ piece) now.to_come (answers_in far.0) (far.1.gave ++ gave) ending
+      → Gives before.moment (far.1.took ++ piece) now.to_come (answers_of far.0) (far.1.gave ++ gave) ending
   over_plainly ending (exchanges, open_, count, turn) piece gave passed (inl (ends, given)) = inl record {
     rest = old.held ++ piece;
-    requests = requests_stay 1 before.moment open_.took (requests_of (answers_in exchanges)) old.held piece open_.answered.requests;
-    ends = ends (requests_of (answers_in exchanges)) open_.unclosed (many exchanges count);
+    requests = requests_stay 1 before.moment open_.took (requests_of (answers_of exchanges)) old.held piece open_.answered.requests;
+    ends = ends (requests_of (answers_of exchanges)) open_.unclosed (many exchanges count);
     given = ap (λ (front : List ℕ). front ++ gave) open_.answered.replies
-        ∙ ap (λ (last : List ℕ). replies_of (answers_in exchanges) ++ last) (given ∙ ap (λ (m : ℕ). last_bytes ending m) open_.passed.moment);
+        ∙ ap (λ (last : List ℕ). replies_of (answers_of exchanges) ++ last) (given ∙ ap (λ (m : ℕ). last_bytes ending m) open_.passed.moment);
   }
   over_plainly ending (exchanges, open_, count, turn) piece gave passed (inr (failed, (due, ends, (rest, cut)))) = inr (
     failed,
     inr record {
       rest = old.held ++ piece;
-      requests = requests_stay 1 before.moment open_.took (requests_of (answers_in exchanges)) old.held piece open_.answered.requests;
+      requests = requests_stay 1 before.moment open_.took (requests_of (answers_of exchanges)) old.held piece open_.answered.requests;
       due = due;
-      ends = ends (requests_of (answers_in exchanges)) open_.unclosed (many exchanges count);
+      ends = ends (requests_of (answers_of exchanges)) open_.unclosed (many exchanges count);
       front = gave;
       is_front = (rest, ap (λ (m : ℕ). last_bytes due m) (sym open_.passed.moment) ∙ cut);
       given = ap (λ (front : List ℕ). front ++ gave) open_.answered.replies;
@@ -171,10 +172,10 @@ module _ (told : Type 0) (facts : Facts) (first : World) (old new : Progress) (o
   )
 
   -- the connection is over
-  pub over : (ending : Ending) → SoFar told facts first old one before between → ServesStep told facts old new one next (Over ending) between now
-      → IsServedInTurn told facts first next ending before now
+  pub over : (ending : Ending) → SoFar facts old history before between → ServesStep facts old new history next (Over ending) between now
+      → IsServedInTurn facts next ending before now
   over ending (exchanges, open_, count, turn) (piece, gave, passed, inl (gives, same)) =
-      let T : World → Type 0 = λ world. InTurnAlone told facts first exchanges world in (
+      let T : List Push → Type 0 = λ pushes. InTurn facts [] exchanges pushes in (
         exchanges,
         record {
           took = open_.took ++ piece;
@@ -186,17 +187,17 @@ module _ (told : Type 0) (facts : Facts) (first : World) (old new : Progress) (o
       )
   over ending (exchanges, open_, count, turn) (piece, gave, passed, inr (failed, (asked, reply, rest, whole, front, exchange))) =
       let answer : Answer = record { asked = asked; reply = reply } in
-      let last : Turn = record { answer = answer; next = next } in
-      let are : answers_in (exchanges ++ last ∷ []) ≡ answers_in exchanges ++ answer ∷ [] = map_then (λ (e : Turn). e.answer) exchanges last in
+      let one : Exchange = record { answer = answer; next = next } in
+      let are : answers_of (exchanges ++ one ∷ []) ≡ answers_of exchanges ++ answer ∷ [] = map_then (λ (e : Exchange). e.answer) exchanges one in
       let E : List Answer → Type 0 = λ answers. IsEnded answers ending before now in
-      let ended_ : IsEnded (answers_in exchanges ++ answer ∷ []) ending before now = record {
+      let ended_ : IsEnded (answers_of exchanges ++ answer ∷ []) ending before now = record {
         took = open_.took ++ piece;
         gave = open_.gave ++ gave;
         passed = passed_then open_.took piece open_.gave gave before between now open_.passed passed;
         gives = inr (
           failed,
           inl record {
-            whole = answers_in exchanges;
+            whole = answers_of exchanges;
             cut = answer;
             are = refl;
             rest = rest;
@@ -206,7 +207,7 @@ module _ (told : Type 0) (facts : Facts) (first : World) (old new : Progress) (o
             given = ap (λ (before_ : List ℕ). before_ ++ gave) open_.answered.replies;
           },
         );
-      } in (exchanges ++ last ∷ [], subst E (sym are) ended_, in_turn_then told facts first exchanges one last turn exchange)
+      } in (exchanges ++ one ∷ [], subst E (sym are) ended_, in_turn_then facts [] exchanges history one turn exchange)
 
 -- the last request that a connection may have asks for closing
 pub last_closes : (asked : Asked) (moment : ℕ) (bytes rest : List ℕ) → IsWhole most_requests moment bytes asked rest → asked.close ≡ true

@@ -79,3 +79,8 @@ pub record ServedAt (facts : Facts) (answers : List Answer) (history base : List
   pub fronts : FrontsRise facts answers
   pub from_base : (tenant : List ℕ) → All (IsAtLeast facts tenant (front_of base tenant)) answers
   pub begins : (later : List Push) × (history ≡ base ++ later)
+
+-- a link that tells was served to its end so
+abbrev pub IsServedAt : Facts → List Push → List Push → Ending → Told → Told → Type 0
+IsServedAt facts history base ending before now =
+    (answers : List Answer) × IsEnded answers ending before now × ServedAt facts answers history base

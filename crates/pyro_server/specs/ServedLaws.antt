@@ -1,5 +1,5 @@
 -- What holds of every connection that is served.
-use Rattle.std.specs.Prelude.{◌≡◌, ◌≤◌, ◌⊎◌, ◌↔◌, ℕ, true, List, [], ◌∷◌, ◌++◌, length}
+use Rattle.std.specs.Prelude.{◌≡◌, ◌⊎◌, ◌↔◌, ℕ, true, List, [], ◌∷◌, ◌++◌, length}
 use Rattle.std.specs.List.{All}
 use Rattle.link_trait.specs.Link.{Told}
 use Rattle.http_session.specs.Asked.{Asked}
@@ -11,14 +11,12 @@ use Rattle.profile_model.specs.declared.push.Push.{Push}
 use Rattle.request_meaning.specs.Facts.{Facts}
 use Rattle.request_meaning.specs.Forms.{tenant_of}
 use Rattle.request_meaning.specs.Meanings.{IsWrite}
-use Rattle.api_replies.specs.Replies.{IsReply}
+use Rattle.api_replies.specs.Replies.{IsReply, IsExcused}
 use Rattle.request_meaning.specs.declared.form.PushForm.{PushForm}
-use Rattle.disk_trait.specs.Disk.{Rose}
-use Rattle.tenant_books.specs.declared.verdict.Receipt.{Receipt}
-use Rattle.tenant_books.specs.declared.verdict.Verdict.TheVariants.{Kept}
-use Rattle.tenant_books.specs.Verdicts.{IsVerdict}
+use Rattle.api_replies.specs.declared.verdict.Verdict.TheVariants.{Kept}
 use Rattle.pyro_server.specs.Given.{Answer, IsEnded, requests_of}
-use Rattle.pyro_server.specs.Served.{Exchange, InTurnAlone, InTurnAmongOthers, IsDefined, Lands, IsHeldUp, TellsFaults, Turn, World, answers_in, answers_of, ask_of}
+use Rattle.pyro_server.specs.Settled.{IsSettled}
+use Rattle.pyro_server.specs.Served.{Exchange, InTurn, InTurnAmongOthers, IsDefined, answers_of}
 use Rattle.pyro_server.specs.ServedAt.{IsAcknowledged, IsAnsweredAt, IsAnsweredOver, ServedAt, own_pushes}
 use Rattle.pyro_server.specs.Statuses.{status_of}
 use Rattle.pyro_server.specs.declared.ending.Ending.{Ending}
@@ -60,25 +58,24 @@ ReadsToTheEnd =
 -- leaves it, so each reply is over a prefix of one history that holds every push told as kept before.
 abbrev pub HistoryGrows : Type 0
 HistoryGrows =
-    (facts : Facts) (first : World) (turns : List Turn) (final : World)
-    → InTurnAlone (Unit {0}) facts first turns final → (later : List Push) × (final.history ≡ first.history ++ later)
+    (facts : Facts) (history : List Push) (exchanges : List Exchange) (final : List Push)
+    → InTurn facts history exchanges final → (later : List Push) × (final ≡ history ++ later)
 
 -- A push that was told as kept stands in every later history at the place that it was told: so many pushes of
 -- its tenant, itself the last of them, and then those that came after it.
 abbrev pub KeepsItsPlace : Type 0
 KeepsItsPlace =
-    (limit : List ℕ → ℕ) (history later : List Push) (push : Push) (least : ℕ) (receipt : Receipt) → IsVerdict limit history (ask_of push least) (Kept receipt)
-    → (receipt.front ≡ length (pushes_of history push.tenant ++ push ∷ []))
-    × (pushes_of ((history ++ push ∷ []) ++ later) push.tenant ≡ (pushes_of history push.tenant ++ push ∷ []) ++ pushes_of later push.tenant)
+    (limit : ℕ) (history next later : List Push) (push : Push) (least front : ℕ) → IsSettled limit history push least (Kept front) next
+    → (front ≡ length (pushes_of history push.tenant ++ push ∷ []))
+    × (pushes_of (next ++ later) push.tenant ≡ (pushes_of history push.tenant ++ push ∷ []) ++ pushes_of later push.tenant)
 
 -- ---- served at a history
 
--- a connection that was alone and answered in turn is served at the history that it left, with what is in the air behind it or
--- without
-abbrev pub AloneIsServed : Type 0
-AloneIsServed =
-    (facts : Facts) (first : World) (turns : List Turn) (final : World) (whole : List Push)
-    → InTurnAlone (Unit {0}) facts first turns final → Lands final whole → ServedAt facts (answers_in turns) whole first.history
+-- a connection that was answered in turn, from a base on, is served at the history that it left
+abbrev pub InTurnIsServed : Type 0
+InTurnIsServed =
+    (facts : Facts) (base : List Push) (exchanges : List Exchange) (final : List Push)
+    → InTurn facts base exchanges final → ServedAt facts (answers_of exchanges) final base
 
 -- and so is one that was answered in turn among others, at whatever history that they all left
 abbrev pub AmongOthersIsServed : Type 0
@@ -103,28 +100,13 @@ IsDefinedAt facts history one =
 abbrev pub IsOneOrTheOther : Type 0
 IsOneOrTheOther =
     (facts : Facts) (answers : List Answer) (history base : List Push)
-    → ServedAt facts answers history base → All (λ one. IsDefinedAt facts history one ⊎ IsHeldUp facts one.asked one.reply) answers
+    → ServedAt facts answers history base → All (λ one. IsDefinedAt facts history one ⊎ IsExcused facts one.asked one.reply) answers
 
 -- and never both
 abbrev pub IsNeverBoth : Type 0
 IsNeverBoth =
     (facts : Facts) (history next : List Push) (one : Answer)
-    → IsDefined facts one.asked history one.reply next → IsHeldUp facts one.asked one.reply → ⊥
-
--- Along the answers each that tells faults tells a count that the disk had when it rose: above those told before it, above the
--- one at first, and not above the one in the end.
-abbrev pub TellsSome : Answer → Type 0
-TellsSome one = (count : ℕ) × TellsFaults one.asked one.reply count
-
-abbrev pub CountsRise : ℕ → List Answer → ℕ → Type 0
-CountsRise first [] final = first ≤ final
-CountsRise first (one ∷ more) final =
-    (next : ℕ) × (first ≤ next) × (TellsSome one → (count : ℕ) × TellsFaults one.asked one.reply count × Rose first count × (count ≤ next)) × CountsRise next more final
-
-abbrev pub AloneCountsRise : Type 0
-AloneCountsRise =
-    (facts : Facts) (first : World) (turns : List Turn) (final : World)
-    → InTurnAlone (Unit {0}) facts first turns final → CountsRise first.faults (answers_in turns) final.faults
+    → IsDefined facts one.asked history one.reply next → IsExcused facts one.asked one.reply → ⊥
 
 -- ---- isolation
 
@@ -152,9 +134,9 @@ FrontIsPrefix =
 abbrev pub MustHaveKept : Facts → Answer → Type 0
 MustHaveKept facts one = IsAcknowledged facts one
 
--- one whose push may have been kept: the disk failed
+-- One whose push may have been kept. As long as nothing but a link can fail, no answer leaves this open.
 abbrev pub MayHaveKept : Facts → Answer → Type 0
-MayHaveKept facts one = MustHaveKept facts one ⊎ TellsSome one
+MayHaveKept facts one = MustHaveKept facts one
 
 -- These pushes are what the answers kept, in their order: of each that must have kept its push that one, of each that
 -- may have it or none, of every other none.
@@ -171,5 +153,5 @@ IsAccount facts base final answers = (kept : List Push) × (final ≡ base ++ ke
 
 abbrev pub KeepsAccount : Type 0
 KeepsAccount =
-    (facts : Facts) (first : World) (turns : List Turn) (final : World) (whole : List Push) → first.flight ≡ []
-    → InTurnAlone (Unit {0}) facts first turns final → Lands final whole → IsAccount facts first.history whole (answers_in turns)
+    (facts : Facts) (base : List Push) (exchanges : List Exchange) (final : List Push)
+    → InTurn facts base exchanges final → IsAccount facts base final (answers_of exchanges)

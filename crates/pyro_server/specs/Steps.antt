@@ -6,9 +6,10 @@ use Rattle.http_session.specs.Reply.{bytes_of_reply}
 use Rattle.http_session.specs.Takes.{IsWhole, is_closed}
 use Rattle.http_session.specs.Progress.{Progress}
 use Rattle.http_session.specs.declared.reply.Reply.{Reply}
+use Rattle.profile_model.specs.declared.push.Push.{Push}
 use Rattle.request_meaning.specs.Facts.{Facts}
 use Rattle.pyro_server.specs.Given.{EndsSo, IsFrontOf, IsOpen, last_bytes}
-use Rattle.pyro_server.specs.Served.{InTurnAlone, IsTurn, Turn, World, answers_in}
+use Rattle.pyro_server.specs.Served.{Exchange, IsExchange, InTurn, answers_of}
 use Rattle.pyro_server.specs.declared.session.Step.{Step}
 use Rattle.pyro_server.specs.declared.session.Step.TheVariants.{Replied, Over}
 use Rattle.pyro_server.specs.declared.ending.Ending.{Ending}
@@ -43,28 +44,27 @@ GivesNoMore number moment bytes to_come gave ending =
     ⊎ ((ending ≡ LinkFault) × ((due : Ending) × EndsBehind number bytes to_come due × IsFrontOf gave (last_bytes due moment)))
 
 -- the request of this number has a reply, of which a front was given where the link failed
-abbrev pub GivesCut : Type 0 → Facts → ℕ → ℕ → List ℕ → World → List ℕ → World → Type 0
-GivesCut told facts number moment bytes one gave next =
+abbrev pub GivesCut : Facts → ℕ → ℕ → List ℕ → List Push → List ℕ → List Push → Type 0
+GivesCut facts number moment bytes history gave next =
     (asked : Asked) × (reply : Reply) × (rest : List ℕ) × IsWhole number moment bytes asked rest
-    × IsFrontOf gave (bytes_of_reply reply) × (told → IsTurn facts one asked reply next)
+    × IsFrontOf gave (bytes_of_reply reply) × IsExchange facts asked history reply next
 
--- The link took a piece: with what was held it is the next request, which was answered; or the connection is over. What a reply
--- says is said if this holds.
-abbrev pub ServesStep : Type 0 → Facts → Progress → Progress → World → World → Step → Told → Told → Type 0
-ServesStep told facts old new one next (Replied close) before now =
+-- The link took a piece: with what was held it is the next request, which was answered; or the connection is over.
+abbrev pub ServesStep : Facts → Progress → Progress → List Push → List Push → Step → Told → Told → Type 0
+ServesStep facts old new history next (Replied close) before now =
     (piece : List ℕ) × (asked : Asked) × (reply : Reply) × Passed piece (bytes_of_reply reply) before now
     × IsWhole new.given before.moment (old.held ++ piece) asked new.held
-    × (told → IsTurn facts one asked reply next) × (asked.close ≡ close)
-ServesStep told facts old new one next (Over ending) before now =
+    × IsExchange facts asked history reply next × (asked.close ≡ close)
+ServesStep facts old new history next (Over ending) before now =
     (piece : List ℕ) × (gave : List ℕ) × Passed piece gave before now
-    × ((GivesNoMore old.given before.moment (old.held ++ piece) now.to_come gave ending × (next ≡ one))
-    ⊎ ((ending ≡ LinkFault) × GivesCut told facts (old.given + 1) before.moment (old.held ++ piece) one gave next))
+    × ((GivesNoMore old.given before.moment (old.held ++ piece) now.to_come gave ending × (next ≡ history))
+    ⊎ ((ending ≡ LinkFault) × GivesCut facts (old.given + 1) before.moment (old.held ++ piece) history gave next))
 
--- what was served so far: the connection is open, and as many requests were answered as the reader gave
-abbrev pub SoFar : Type 0 → Facts → World → Progress → World → Told → Told → Type 0
-SoFar told facts first reader one before now =
-    (turns : List Turn) × IsOpen (answers_in turns) reader.held before now
-    × (length turns ≡ reader.given) × InTurnAlone told facts first turns one
+-- what was served so far, from no history: the connection is open, and as many requests were answered as the reader gave
+abbrev pub SoFar : Facts → Progress → List Push → Told → Told → Type 0
+SoFar facts reader history before now =
+    (exchanges : List Exchange) × IsOpen (answers_of exchanges) reader.held before now
+    × (length exchanges ≡ reader.given) × InTurn facts [] exchanges history
 
 -- a reply was given, and the connection closes after it or not
 abbrev pub IsReplied : Step → Type 0

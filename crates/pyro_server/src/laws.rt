@@ -1,6 +1,6 @@
 // What holds of every connection that is served.
 ghost use Rattle.pyro_server.specs.ServedLaws.{AmongOthersIsServed, AnswersAllInput, AnswersAreIsolated, AnswersTheFirst, FrontIsPrefix, HistoryGrows};
-ghost use Rattle.pyro_server.specs.ServedLaws.{AloneCountsRise, AloneIsServed, IsNeverBoth, IsOneOrTheOther, KeepsAccount, KeepsItsPlace};
+ghost use Rattle.pyro_server.specs.ServedLaws.{InTurnIsServed, IsNeverBoth, IsOneOrTheOther, KeepsAccount, KeepsItsPlace};
 ghost use Rattle.pyro_server.specs.ServedLaws.{ReadsToTheEnd, RepliesAreIsolated, StaysServed};
 
 /// The requests that a connection answers are those of all of its input, which is read to its end, or to a request
@@ -21,16 +21,15 @@ pub fn one_history()
 /// A connection that is served in turn, by itself or among others, is served at the history that is left, and
 /// at each later one.
 pub fn served_at_later_histories()
-    ensures alone { AloneIsServed }
+    ensures in_turn { InTurnIsServed }
     ensures among { AmongOthersIsServed }
     ensures stays { StaysServed }
 {}
 
-/// Each reply is the one by definition, or an excused one; and the counts of faults that excused ones tell rise.
+/// Each reply is the one by definition, or an excused one, which keeps nothing.
 pub fn defined_or_excused()
     ensures one { IsOneOrTheOther }
     ensures never_both { IsNeverBoth }
-    ensures counts { AloneCountsRise }
 {}
 
 /// What a request is told depends on the pushes of its own tenant alone, so a reply over a front of them is
@@ -41,8 +40,7 @@ pub fn tenants_are_apart()
     ensures prefix { FrontIsPrefix }
 {}
 
-/// The history past a session's base holds the pushes that were acknowledged, and of those that were told of a disk that failed
-/// some, in the order of their requests.
+/// The history past a session's base holds just the pushes that were acknowledged, in the order of their requests.
 pub fn account_of_pushes()
     ensures account { KeepsAccount }
 {}

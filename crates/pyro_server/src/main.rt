@@ -3,27 +3,26 @@
 
 mod ending;
 mod laws;
-mod opening;
 mod outcome;
 mod session;
+mod settle;
 mod status;
 #[cfg(test)]
 mod tests;
 mod words;
 
-use disk_trait::DirDisk;
 pub use ending::Ending;
 pub use laws::{
     account_of_pushes, all_input_is_answered, defined_or_excused, one_history,
     served_at_later_histories, tenants_are_apart,
 };
 use link_trait::StdioLink;
-pub use opening::{Ended, run_session};
 pub use outcome::{Outcome, run};
+pub use session::{Ended, run_session};
 pub use status::ExitStatus;
 use std::alloc::Global;
 use std::process::ExitCode;
-use std::{env, io};
+use std::{env, io, mem};
 
 fn main(rt: HostRuntime) -> ExitCode {
     let words = match words_of(&rt) {
@@ -33,13 +32,11 @@ fn main(rt: HostRuntime) -> ExitCode {
         }
         Err(_) => return ExitCode::from(ExitStatus::NoCommand.code()),
     };
-    let Ok(clock) = rt.clone() else {
-        return ExitCode::from(ExitStatus::NoMemory.code());
-    };
     let alloc = rt.alloc();
-    let disk = DirDisk::new(rt);
-    let stdio = StdioLink::new(clock);
-    let outcome = run(alloc, &words, disk, stdio, (), (), &());
+    let stdio = StdioLink::new(rt);
+    let outcome = run(alloc, &words, (), stdio, (), (), &());
+    // The system takes the memory back with the process: to let go of each stack before would only delay the end.
+    mem::forget(outcome.history);
     ExitCode::from(outcome.status.code())
 }
 

@@ -9,12 +9,8 @@ pub enum ExitStatus {
     Done,
     /// The words are no command.
     NoCommand,
-    /// Memory ran out while a request was read, or outside of one.
+    /// Memory ran out while a request was read.
     NoMemory,
-    /// The disk counted a fault at the opening or at the end.
-    DiskFault,
-    /// The files stand for no history.
-    Damaged,
     /// The standard stream counted a fault.
     StreamFault,
     /// The last request that a connection may have was answered.
@@ -32,8 +28,6 @@ impl ExitStatus {
             ExitStatus::Done => 0,
             ExitStatus::NoCommand => 2,
             ExitStatus::NoMemory => 3,
-            ExitStatus::DiskFault => 4,
-            ExitStatus::Damaged => 5,
             ExitStatus::StreamFault => 6,
             ExitStatus::LastRequest => 9,
             ExitStatus::BadRequest => 11,

@@ -6,13 +6,10 @@ mod refusals;
 mod talk;
 
 use crate::{ExitStatus, Outcome, run};
-use disk_trait::MemoryDisk;
 use link_trait::{Link, MemoryLink};
 use std::alloc::{AllocError, Global};
 use std::process::Abort;
 use std::test::Fail;
-use store_core::Store;
-use tenant_books::Limits;
 
 const NOW: u64 = 1_700_000_000_000;
 
@@ -28,7 +25,7 @@ const INGESTED: &str =
 const RENDERED: &str =
     "HTTP/1.1 200 OK\r\nContent-Type: text/plain\r\nContent-Length: 25\r\nX-Pyro-Front: 1\r\nX-Pyro-Now: 1700000000000\r\n\r\nmain 2\nmain;a 3\nmain;b 5\n";
 
-type Ran = Outcome<MemoryDisk, MemoryLink, (), ()>;
+type Ran = Outcome<(), MemoryLink, (), ()>;
 
 // A run over these words and this input.
 fn ran(
@@ -44,8 +41,7 @@ fn ran(
     }
     let bytes = Vec::from_slice(alloc, input)?;
     let link = MemoryLink::new(alloc, bytes, cuts, NOW, failing);
-    let disk = MemoryDisk::with(alloc, Vec::new(alloc), Vec::new(alloc));
-    Ok(run(alloc, &words, disk, link, (), (), &()))
+    Ok(run(alloc, &words, (), link, (), (), &()))
 }
 
 // The replies to this input in one session, and how it ended.
@@ -61,14 +57,6 @@ fn text(alloc: Global, pieces: &[&str]) -> Result<String, AllocError> {
     Ok(whole)
 }
 
-// How many pushes a disk holds.
-fn kept(alloc: Global, disk: MemoryDisk) -> Result<u64, Fail> {
-    match Store::open(alloc, disk, Limits::usual(alloc), 1 << 20) {
-        Ok(store) => Ok(store.len()),
-        Err(refused) => Err(Fail::from(refused.cause)),
-    }
-}
-
 // The run gave just these bytes and ended so.
 fn expect(rt: &impl Abort, ran: &Ran, given: &str, status: ExitStatus, at: usize) {
     assert_eq!(rt; ran.stdio.given(), given.as_bytes(), "at {at}");
@@ -82,7 +70,7 @@ fn a_push_is_rendered_as_folded_text(rt: HostRuntime) -> Result<(), Fail> {
     let given = text(alloc, &[INGESTED, RENDERED])?;
     let ran = session(alloc, input.as_str().as_bytes())?;
     expect(&rt, &ran, given.as_str(), ExitStatus::Done, 0);
-    assert_eq!(rt; kept(alloc, ran.disk)?, 1);
+    assert_eq!(rt; ran.history.len(), 1);
     Ok(())
 }
 
@@ -193,7 +181,7 @@ fn heads_that_are_not_served_close_the_connection(rt: HostRuntime) -> Result<(),
     {
         let ran = session(alloc, input.as_bytes())?;
         expect(&rt, &ran, given, ExitStatus::BadRequest, at);
-        assert_eq!(rt; kept(alloc, ran.disk)?, 0);
+        assert_eq!(rt; ran.history.len(), 0);
     }
     Ok(())
 }

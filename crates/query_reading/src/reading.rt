@@ -16,7 +16,7 @@ use history_pass::Pass;
 use profile_model::MAX_TOTAL;
 use segment_file::{Part, Row};
 use shared_store::{Cursor, Gate, Names, Profiles};
-use std::alloc::{AllocError, Global};
+use std::alloc::Global;
 use store_core::ReadFault;
 
 /// Why a history wasn't read to its end.
@@ -27,17 +27,6 @@ pub enum ReadingFault {
     Disk(u64),
     /// What was read can't be of the history. This doesn't come where the disk tells what it holds.
     Damaged,
-}
-
-impl From<AllocError> for ReadingFault {
-    ghost use Rattle.std.specs.Prelude.{◌≡◌};
-    ghost use Rattle.query_reading.specs.declared.reading.ReadingFault.TheVariants.{Memory};
-
-    ghost from_gives = { λ _ fault. fault ≡ Memory };
-
-    fn from(_: AllocError) -> ReadingFault {
-        ReadingFault::Memory
-    }
 }
 
 impl From<ReadFault> for ReadingFault {

@@ -7,9 +7,7 @@ pub record Facts : Type 0 where
   pub single : Bool
   -- the most that the values of all pushes of a tenant may sum to
   pub limit : List ℕ → ℕ
-  -- how many records the index file may have
-  pub records : ℕ
 
 -- the facts that an operator settles: each tenant's limit is 2^63 - 1
 abbrev pub facts_of : Config → Facts
-facts_of config = record { single = config.single_tenant; limit = λ tenant. 2 ^ 63 - 1; records = config.records }
+facts_of config = record { single = config.single_tenant; limit = λ tenant. 2 ^ 63 - 1 }

@@ -6,7 +6,5 @@ use routes::Routes;
 pub struct Config {
     /// Every request's tenant is `anonymous`, whatever its header says.
     pub single_tenant: bool,
-    /// How many records the index file may have.
-    pub records: u64,
     pub routes: Routes,
 }

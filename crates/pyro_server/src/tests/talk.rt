@@ -1,5 +1,5 @@
 // A session as a list of requests, each with the reply that is due.
-use super::{kept as kept_by, session};
+use super::session;
 use crate::ExitStatus;
 use std::alloc::{AllocError, Global};
 use std::process::Abort;
@@ -91,11 +91,11 @@ impl Talk {
     }
 
     /// The session gives just these replies, and keeps so many pushes.
-    pub(super) fn holds(&self, rt: &impl Abort, pushes: u64) -> Result<(), Fail> {
+    pub(super) fn holds(&self, rt: &impl Abort, kept: usize) -> Result<(), Fail> {
         let ran = session(self.alloc, &self.input)?;
         assert_eq!(rt; ran.stdio.given(), self.given.as_str().as_bytes());
         assert_eq!(rt; ran.status, ExitStatus::Done);
-        assert_eq!(rt; kept_by(self.alloc, ran.disk)?, pushes);
+        assert_eq!(rt; ran.history.len(), kept);
         Ok(())
     }
 }

@@ -1,11 +1,8 @@
-use Rattle.api_replies.proofs.FailureLemmas.{never_both, never_unread, reply_is_no_failure}
+use Rattle.api_replies.proofs.FailureLemmas.{never_both, reply_is_no_failure}
 use Rattle.api_replies.proofs.laws.one_or_the_other.Goals as goal
 
 pub returns-clause-no_failure : goal.returns-clause-no_failure
-returns-clause-no_failure g c = reply_is_no_failure
+returns-clause-no_failure c = reply_is_no_failure
 
 pub returns-clause-never_both : goal.returns-clause-never_both
-returns-clause-never_both g c = never_both
-
-pub returns-clause-never_unread : goal.returns-clause-never_unread
-returns-clause-never_unread g c = never_unread g.J.Names.run.tells
+returns-clause-never_both c = never_both

@@ -1,4 +1,4 @@
-use Rattle.pyro_server.proofs.ServingAt.{alone_counts_rise, is_never_both, is_one_or_the_other}
+use Rattle.pyro_server.proofs.ServingAt.{is_never_both, is_one_or_the_other}
 use Rattle.pyro_server.proofs.laws.defined_or_excused.Goals as goal
 
 pub returns-clause-one : goal.returns-clause-one
@@ -6,6 +6,3 @@ returns-clause-one c = is_one_or_the_other
 
 pub returns-clause-never_both : goal.returns-clause-never_both
 returns-clause-never_both c = is_never_both
-
-pub returns-clause-counts : goal.returns-clause-counts
-returns-clause-counts c = alone_counts_rise
